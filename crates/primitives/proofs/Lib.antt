@@ -1,0 +1,17 @@
+pub mod Codes
+pub mod Fields
+pub mod Integers
+pub mod Lengths
+pub mod Mask
+pub mod Numbers
+pub mod Places
+pub mod Shortest
+pub mod Signs
+pub mod Single
+pub mod Spans
+pub mod Starred
+pub mod Steps
+pub mod Turns
+pub mod Varints
+pub mod Written
+pub mod Zigzag

@@ -1,0 +1,75 @@
+-- What a step came from, and how a counted loop turns: by cases on the step and on the count. Assumes nothing.
+use Prim.Native.Nat.{ℕ, zero, suc, _-_, _<_}
+use mathlib.Core.Path.{_≡_, refl, sym, ap, _∙_}
+use mathlib.Core.Bool.{Bool, true, false}
+use mathlib.Core.List.{List, [], _∷_}
+use native.Mathlib.Omega.{arith}
+use lib.ListN.{length}
+use Rattle.primitives.specs.Pick.{pick}
+use Rattle.primitives.specs.Step.{Step, ok, no, andThen, mapStep, times}
+
+-- ---- what a step came from
+
+pub ok-not-no : {P A X : Type 0} {a : A} {p : P} {n : ℕ} → ok a p ≡ no n → X
+ok-not-no e = let z : _≡_ {A = ℕ} 0 1 = cc in absurd (omega arith)
+
+module _ {P A B : Type 0} where
+  pub and-then-ok : (x : Step P A) (f : A → P → Step P B) {b : B} {q : P} → andThen x f ≡ ok b q
+      → (a : A) × (p : P) × (x ≡ ok a p) × (f a p ≡ ok b q)
+  and-then-ok (ok a p) f e = (a, p, refl, e)
+  and-then-ok (no n) f e = ok-not-no (sym e)
+
+  pub map-ok : (f : A → B) (x : Step P A) {b : B} {q : P} → mapStep f x ≡ ok b q → (a : A) × (x ≡ ok a q) × (f a ≡ b)
+  map-ok f (ok a p) {b} {q} e = let w : p ≡ q = cc in (a, ap (ok a) w, cc)
+  map-ok f (no n) e = ok-not-no (sym e)
+
+  pub map-no : (f : A → B) (x : Step P A) {n : ℕ} → mapStep f x ≡ no n → x ≡ no n
+  map-no f (ok a p) e = ok-not-no e
+  map-no f (no m) {n} e = let w : m ≡ n = cc in ap no w
+
+pub pick-ok : {P A : Type 0} (t : Bool) (a : A) (p : P) (m : ℕ) {b : A} {q : P} → pick t (ok a p) (no m) ≡ ok b q
+    → (t ≡ true) × (a ≡ b) × (p ≡ q)
+pick-ok true a p m e = (refl, cc, cc)
+pick-ok false a p m e = ok-not-no (sym e)
+
+-- ---- steps of steps
+
+pub and-then-and-then : {P A B C : Type 0} (x : Step P A) (f : A → P → Step P B) (g : B → P → Step P C)
+    → andThen (andThen x f) g ≡ andThen x (λ a p. andThen (f a p) g)
+and-then-and-then (ok a p) f g = refl
+and-then-and-then (no n) f g = refl
+
+pub map-map : {P A B C : Type 0} (g : B → C) (f : A → B) (x : Step P A) → mapStep g (mapStep f x) ≡ mapStep (λ a. g (f a)) x
+map-map g f (ok a p) = refl
+map-map g f (no n) = refl
+
+pub map-id : {P A : Type 0} (x : Step P A) → mapStep (λ a. a) x ≡ x
+map-id (ok a p) = refl
+map-id (no n) = refl
+
+-- ---- a counted loop; g puts what is still to come onto what the loop has
+
+module _ {P A : Type 0} (f : P → Step P A) where
+  module _ {B : Type 0} (g : List A → B) where
+    pub times-again : (k : ℕ) (at : P) {a : A} {p : P} → 0 < k → f at ≡ ok a p
+        → mapStep g (times f k at) ≡ mapStep (λ rest. g (a ∷ rest)) (times f (k - 1) p)
+    unfolding times
+    times-again zero at h e = absurd (omega arith)
+    times-again (suc k) at h e = let d : suc k - 1 ≡ k = omega arith in rw (d, e, map-map)
+
+    pub times-stop : (k : ℕ) (at : P) {n : ℕ} → 0 < k → f at ≡ no n → mapStep g (times f k at) ≡ no n
+    unfolding times
+    times-stop zero at h e = absurd (omega arith)
+    times-stop (suc k) at h e = rw e
+
+    pub times-done : (k : ℕ) (at : P) → k ≡ 0 → mapStep g (times f k at) ≡ ok (g []) at
+    unfolding times
+    times-done k at e = rw e
+
+  pub times-count : (k : ℕ) (at : P) {xs : List A} {p : P} → times f k at ≡ ok xs p → length xs ≡ k
+  unfolding times
+  times-count zero at {xs} e = let w : [] ≡ xs = cc in ap length (sym w)
+  times-count (suc k) at e =
+      let (a, p, _, e′) = and-then-ok (f at) (λ a p. mapStep (λ rest. a ∷ rest) (times f k p)) e in
+      let (rest, is, w) = map-ok (λ rest. a ∷ rest) (times f k p) e′ in
+      ap length (sym w) ∙ ap suc (times-count k p is)

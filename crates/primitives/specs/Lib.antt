@@ -1,0 +1,11 @@
+pub mod Pick
+pub mod Bytes
+pub mod Single
+pub mod Step
+pub mod Stands
+pub mod Format
+pub mod Reading
+pub mod Answers
+pub mod Promises
+pub mod Starred
+pub mod Statements
