@@ -14,10 +14,10 @@ use mir.Val.{Fits, SFits, toZ, ofZ, bytes, hbits}
 use mir.ValLaws.{toZ-ofZ}
 use Rattle.primitives.specs.declared.Cursor.{Cursor}
 use Rattle.primitives.specs.declared.Fault.{Fault}
-use Rattle.primitives.specs.declared.UnsignedRead.{UnsignedRead}
+use Rattle.primitives.specs.declared.RawRead.{RawRead}
 use Rattle.primitives.specs.Step.{ok, no, mapStep}
 use Rattle.primitives.specs.Reading.{unsignedAt, signedBy, integerAt}
-use Rattle.primitives.specs.Answers.{numberOf, viewUnsigned}
+use Rattle.primitives.specs.Answers.{numberOf, viewRaw}
 use Rattle.primitives.specs.Promises.{Halved}
 use Rattle.primitives.specs.Format.{bigEndian, complement, InBits}
 use Rattle.primitives.proofs.Integers.{unsigned-sound, complement-narrow}
@@ -39,24 +39,24 @@ sign-bit w64 = refl
 sign-bit w128 = refl
 
 -- ---- unsigned
-module _ (n : ℕ) (s : List ℕ) (at : ℕ) (r : UnsignedRead) (e : viewUnsigned r ≡ unsignedAt n s at) where
-  pub unsigned-got : (v : ℕ) (next : Cursor) → r ≡ UnsignedRead.Got v next → ok v (next .at) ≡ unsignedAt n s at
-  unsigned-got v next f = sym (ap viewUnsigned f) ∙ e
+module _ (n : ℕ) (s : List ℕ) (at : ℕ) (r : RawRead) (e : viewRaw r ≡ unsignedAt n s at) where
+  pub unsigned-got : (v : ℕ) (next : Cursor) → r ≡ RawRead.Got v next → ok v (next .at) ≡ unsignedAt n s at
+  unsigned-got v next f = sym (ap viewRaw f) ∙ e
 
-  pub unsigned-refused : (f : Fault) → r ≡ UnsignedRead.Refused f → no (numberOf f) ≡ unsignedAt n s at
-  unsigned-refused f g = sym (ap viewUnsigned g) ∙ e
+  pub unsigned-refused : (f : Fault) → r ≡ RawRead.Refused f → no (numberOf f) ≡ unsignedAt n s at
+  unsigned-refused f g = sym (ap viewRaw g) ∙ e
 
-  pub unsigned-below : (v : ℕ) (next : Cursor) → ((i : ℕ) → Fits w8 (getD s i 0)) → r ≡ UnsignedRead.Got v next → v < 256 ^ n
+  pub unsigned-below : (v : ℕ) (next : Cursor) → ((i : ℕ) → Fits w8 (getD s i 0)) → r ≡ RawRead.Got v next → v < 256 ^ n
   unsigned-below v next bytes f =
       unsigned-sound n s at v (next .at) (λ i. bytes i .fits) (sym (unsigned-got v next f)) .encodes .fits
 
-  pub integer-refused : (f : Fault) → r ≡ UnsignedRead.Refused f → no (numberOf f) ≡ integerAt n s at
+  pub integer-refused : (f : Fault) → r ≡ RawRead.Refused f → no (numberOf f) ≡ integerAt n s at
   unfolding integerAt
   integer-refused f g = rw (sym (unsigned-refused f g))
 
 -- ---- signed
-module _ (w : Width) (s : List ℕ) (at : ℕ) (r : UnsignedRead) (v : ℕ) (next : Cursor) (bounds : (i : ℕ) → Fits w8 (getD s i 0))
-    (e : viewUnsigned r ≡ unsignedAt (bytes w) s at) (f : r ≡ UnsignedRead.Got v next) where
+module _ (w : Width) (s : List ℕ) (at : ℕ) (r : RawRead) (v : ℕ) (next : Cursor) (bounds : (i : ℕ) → Fits w8 (getD s i 0))
+    (e : viewRaw r ≡ unsignedAt (bytes w) s at) (f : r ≡ RawRead.Got v next) where
   below : v < 2 * 2 ^ hbits w
   below = rw (halves w) at (unsigned-below (bytes w) s at r e v next bounds f)
 

@@ -1,7 +1,7 @@
 -- What the methods that read a length, and bytes after it, return: by the sign of the number, by whether it is -1, and by
 -- whether the bytes are there. The premises have the form in which a proof finds them. Assumes nothing.
 use Prim.Native.Nat.{ℕ, zero, suc, _+_, _-_, _≤_, _<_}
-use mathlib.Core.Path.{_≡_, refl, sym, ap, _∙_}
+use mathlib.Core.Path.{_≡_, sym, ap, _∙_}
 use mathlib.Core.Bool.{Bool, true, false}
 use mathlib.Core.Option.{none, some}
 use mathlib.Core.List.{List}
@@ -18,7 +18,7 @@ use Rattle.primitives.specs.declared.Fault.{Fault}
 use Rattle.primitives.specs.declared.Varint.{Varint}
 use Rattle.primitives.specs.declared.VarintRead.{VarintRead}
 use Rattle.primitives.specs.declared.LengthRead.{LengthRead}
-use Rattle.primitives.specs.Step.{ok, no, andThen}
+use Rattle.primitives.specs.Step.{ok, no}
 use Rattle.primitives.specs.Reading.{varintAt, lengthOf, lengthAt, spanOf, spanAt}
 use Rattle.primitives.specs.Answers.{numberOf, viewVarint, viewLength}
 use Rattle.primitives.proofs.Signs.{nonnegative, negative}

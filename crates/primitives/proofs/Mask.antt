@@ -7,7 +7,7 @@ use native.Mathlib.Decide.{decLt}
 use native.Mathlib.Nat.{mod-eq-of-lt, add-zero}
 use borrow.Author.Tests.{eq-eqb, ne-eqb}
 use lib.Bits.{bitXor, bitAnd, xor-zero-r, xor-add-and, and-mask, xor-lt}
-use lib.IntN.{ℤ, pos, negsuc}
+use lib.IntN.{negsuc}
 use Rattle.primitives.specs.Reading.{signedBy, unzigzag}
 use Rattle.primitives.proofs.Integers.{signed-low, signed-high}
 

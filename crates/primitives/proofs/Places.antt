@@ -1,14 +1,14 @@
 -- Laws of bytes that stand at a place: they are taken apart and put together, and a window that holds them shows them.
 -- Assumes nothing.
-use Prim.Native.Nat.{ℕ, zero, suc, _+_, _-_, _≤_, _<_}
+use Prim.Native.Nat.{ℕ, _+_, _≤_, _<_}
 use mathlib.Core.Path.{_≡_, refl, sym, ap, _∙_}
 use mathlib.Core.List.{List, [], _∷_, _++_, append-assoc}
 use native.Mathlib.Omega.{arith}
 use native.Mathlib.Numerals.{add-one}
 use native.Mathlib.Nat.{add-zero}
-use lib.ListN.{length, getD, take, drop, length-append, length-drop, length-take, take-append-drop}
-use lib.Seq.{drop-cons, getD-drop, drop-drop, drop-append-seam, take-append-seam, take-take, drop-length}
-use Rattle.primitives.specs.Stands.{Stands, Encoding}
+use lib.ListN.{length, getD, take, drop, length-append}
+use lib.Seq.{drop-cons, getD-drop, drop-drop, drop-append-seam, take-append-seam}
+use Rattle.primitives.specs.Stands.{Stands}
 
 -- none
 pub nothing : (s : List ℕ) (p : ℕ) → p ≤ length s → Stands s p p []
@@ -25,9 +25,6 @@ in-front bs t = record { split = ap (λ (x : List ℕ). bs ++ x) (sym (drop-appe
 module _ {s : List ℕ} {p q : ℕ} {bs : List ℕ} (x : Stands s p q bs) where
   pub shows : take (length bs) (drop p s) ≡ bs
   shows = rw (x .split) (take-append-seam bs (drop q s))
-
-  pub start-within : p ≤ length s
-  start-within = omega (arith, x .end, x .within)
 
 module _ {s : List ℕ} {p q b : ℕ} {bs : List ℕ} (x : Stands s p q (b ∷ bs)) where
   pub here : p < length s

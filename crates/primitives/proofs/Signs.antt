@@ -1,7 +1,7 @@
 -- Signed numbers as the machine holds them, over the width: what the casts and `-1 - x` mean. A signed local holds bits,
 -- and what is read of them is the number again, since the number fits. Assumes nothing.
-use Prim.Native.Nat.{ℕ, zero, suc, _+_, _-_, _*_, _^_, _≤_, _<_}
-use mathlib.Core.Path.{_≡_, refl, sym, ap, _∙_, subst⁻¹}
+use Prim.Native.Nat.{ℕ, zero, suc, _-_, _*_, _^_, _≤_, _<_}
+use mathlib.Core.Path.{_≡_, refl, ap, _∙_, subst⁻¹}
 use mathlib.Core.Bool.{Bool, true, false, not}
 use native.Mathlib.Omega.{arith}
 use native.Mathlib.Decide.{decLt}
@@ -10,7 +10,7 @@ use borrow.Author.Tests.{le-ltb}
 use lib.Dec.{T, leb, T-not, leb·zero}
 use lib.IntN.{ℤ, pos, negsuc, _-ℤ_, natAbs}
 use lib.Pow.{pow-mono}
-use lib.Signed.{mag, leZ, nonNeg}
+use lib.Signed.{leZ, nonNeg}
 use mir.Syntax.{Width}
 use mir.Val.{SFits, toZ, ofZ, hbits}
 use mir.ValLaws.{toZ-pos, toZ-ofZ}

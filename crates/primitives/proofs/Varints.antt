@@ -11,7 +11,7 @@ use lib.IntN.{ℤ}
 use lib.ListN.{length, length-append}
 use Rattle.primitives.specs.Step.{ok, mapStep}
 use Rattle.primitives.specs.Stands.{Stands, Encoding}
-use Rattle.primitives.specs.Format.{zigzag, groups, most, Varies}
+use Rattle.primitives.specs.Format.{zigzag, groups, Varies}
 use Rattle.primitives.specs.Reading.{codeAt, full, limit, unzigzag, varintAt}
 use Rattle.primitives.specs.Statements.{VarintSound, VarintComplete, VarintUnambiguous}
 use Rattle.primitives.proofs.Steps.{map-ok}

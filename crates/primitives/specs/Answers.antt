@@ -16,8 +16,7 @@ use Rattle.primitives.specs.declared.VarintRead.{VarintRead}
 use Rattle.primitives.specs.declared.VarlongRead.{VarlongRead}
 use Rattle.primitives.specs.declared.LengthRead.{LengthRead}
 use Rattle.primitives.specs.declared.SpanRead.{SpanRead}
-use Rattle.primitives.specs.declared.UnsignedRead.{UnsignedRead}
-use Rattle.primitives.specs.declared.CodeRead.{CodeRead}
+use Rattle.primitives.specs.declared.RawRead.{RawRead}
 use Rattle.primitives.specs.declared.Encoded.{Encoded}
 use Rattle.primitives.specs.Step.{Step, ok, no}
 use Rattle.primitives.specs.Reading.{Span}
@@ -70,13 +69,9 @@ viewSpan (SpanRead.Span x c) = ok (some (record { start = x .start; len = x .len
 viewSpan (SpanRead.Null c) = ok none (c .at)
 viewSpan (SpanRead.Refused f) = no (numberOf f)
 
-abbrev pub viewUnsigned : UnsignedRead → Step ℕ ℕ
-viewUnsigned (UnsignedRead.Got v c) = ok v (c .at)
-viewUnsigned (UnsignedRead.Refused f) = no (numberOf f)
-
-abbrev pub viewCode : CodeRead → Step ℕ ℕ
-viewCode (CodeRead.Got v c) = ok v (c .at)
-viewCode (CodeRead.Refused f) = no (numberOf f)
+abbrev pub viewRaw : RawRead → Step ℕ ℕ
+viewRaw (RawRead.Got v c) = ok v (c .at)
+viewRaw (RawRead.Refused f) = no (numberOf f)
 
 -- at most ten bytes in ten, zeros after them, and how many they are
 abbrev pub inTen : List ℕ → Encoded

@@ -1,6 +1,6 @@
 -- The laws of the primitive layer, each in words and then as a statement. What proves each stands in proofs/ under the
 -- statement's name in small letters: `zigzag-back : ZigzagBack`.
-use Prim.Native.Nat.{ℕ, _+_, _-_, _*_, _^_, _<_, _≤_}
+use Prim.Native.Nat.{ℕ, _+_, _-_, _^_, _<_, _≤_}
 use mathlib.Core.Path.{_≡_}
 use mathlib.Core.Bool.{Bool, false}
 use mathlib.Core.Option.{Option, none, some}
@@ -8,7 +8,7 @@ use mathlib.Core.List.{List, [], _++_, map}
 use lib.IntN.{ℤ}
 use lib.ListN.{length}
 use Rattle.primitives.specs.Bytes.{Bytes}
-use Rattle.primitives.specs.Step.{Step, ok, no}
+use Rattle.primitives.specs.Step.{ok}
 use Rattle.primitives.specs.Stands.{Stands, Encoding}
 use Rattle.primitives.specs.Format.{InBits, Unsigned, Integer, zigzag, shortest, Varies, Nullable}
 use Rattle.primitives.specs.Reading.{unsignedAt, integerAt, unzigzag, varintAt, Span, spanAt, shown}

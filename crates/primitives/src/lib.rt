@@ -1,12 +1,10 @@
 // The primitive types of the record batch: integers of fixed size, numbers of varying length, and bytes that follow
 // their length. Types and names follow src/protocol/primitives.rs of rskafka 0.6.0.
 ghost use mathlib.Core.Path.{_≡_};
-ghost use Prim.Native.Nat.{_+_, _*_, _≤_, _<_, _^_};
-ghost use mathlib.Core.Bool.{Bool};
-ghost use lib.ListN.{length};
+ghost use Prim.Native.Nat.{_≤_};
 ghost use Rattle.primitives.specs.Format.{complement, bigEndian, zigzag, fewest};
 ghost use Rattle.primitives.specs.Reading.{unsignedAt, signedBy, codeAt, unzigzag};
-ghost use Rattle.primitives.specs.Answers.{viewUnsigned, viewCode, inTen};
+ghost use Rattle.primitives.specs.Answers.{viewRaw, inTen};
 ghost use Rattle.primitives.specs.Promises.{NumberPromise, ToBeBytesPromise, UnsignedToBeBytesPromise, EncodePromise, ReadInt8Promise, ReadInt16Promise, ReadInt32Promise, ReadInt64Promise, ReadUint32Promise, ReadUint64Promise, ReadVarintPromise, ReadVarlongPromise, ReadLengthPromise, ReadSpanPromise, Halved, Holds};
 
 // An integer between -2^7 and 2^7 - 1.
@@ -110,14 +108,8 @@ pub enum SpanRead {
     Refused(Fault),
 }
 
-// An unsigned integer of one to eight bytes, before it is narrowed to its type.
-enum UnsignedRead {
-    Got(u64, Cursor),
-    Refused(Fault),
-}
-
-// The zigzag code of a number, before it is turned back.
-enum CodeRead {
+// A number as its bytes give it, before it is turned to its type.
+enum RawRead {
     Got(u64, Cursor),
     Refused(Fault),
 }
@@ -212,8 +204,8 @@ impl Cursor {
         ensures { λ r. ⌜ ReadInt8Promise (now (s .entry)) (self .at) r ⌝ }
     {
         match self.read_unsigned(s, 1) {
-            UnsignedRead::Got(v, next) => Int8Read::Got(Int8(signed(v, 0x80) as i8), next),
-            UnsignedRead::Refused(f) => Int8Read::Refused(f),
+            RawRead::Got(v, next) => Int8Read::Got(Int8(signed(v, 0x80) as i8), next),
+            RawRead::Refused(f) => Int8Read::Refused(f),
         }
     }
 
@@ -221,8 +213,8 @@ impl Cursor {
         ensures { λ r. ⌜ ReadInt16Promise (now (s .entry)) (self .at) r ⌝ }
     {
         match self.read_unsigned(s, 2) {
-            UnsignedRead::Got(v, next) => Int16Read::Got(Int16(signed(v, 0x8000) as i16), next),
-            UnsignedRead::Refused(f) => Int16Read::Refused(f),
+            RawRead::Got(v, next) => Int16Read::Got(Int16(signed(v, 0x8000) as i16), next),
+            RawRead::Refused(f) => Int16Read::Refused(f),
         }
     }
 
@@ -230,11 +222,8 @@ impl Cursor {
         ensures { λ r. ⌜ ReadInt32Promise (now (s .entry)) (self .at) r ⌝ }
     {
         match self.read_unsigned(s, 4) {
-            UnsignedRead::Got(v, next) => Int32Read::Got(
-                Int32(signed(v, 0x8000_0000) as i32),
-                next,
-            ),
-            UnsignedRead::Refused(f) => Int32Read::Refused(f),
+            RawRead::Got(v, next) => Int32Read::Got(Int32(signed(v, 0x8000_0000) as i32), next),
+            RawRead::Refused(f) => Int32Read::Refused(f),
         }
     }
 
@@ -242,11 +231,8 @@ impl Cursor {
         ensures { λ r. ⌜ ReadInt64Promise (now (s .entry)) (self .at) r ⌝ }
     {
         match self.read_unsigned(s, 8) {
-            UnsignedRead::Got(v, next) => Int64Read::Got(
-                Int64(signed(v, 0x8000_0000_0000_0000)),
-                next,
-            ),
-            UnsignedRead::Refused(f) => Int64Read::Refused(f),
+            RawRead::Got(v, next) => Int64Read::Got(Int64(signed(v, 0x8000_0000_0000_0000)), next),
+            RawRead::Refused(f) => Int64Read::Refused(f),
         }
     }
 
@@ -254,8 +240,8 @@ impl Cursor {
         ensures { λ r. ⌜ ReadUint32Promise (now (s .entry)) (self .at) r ⌝ }
     {
         match self.read_unsigned(s, 4) {
-            UnsignedRead::Got(v, next) => Uint32Read::Got(Uint32(v as u32), next),
-            UnsignedRead::Refused(f) => Uint32Read::Refused(f),
+            RawRead::Got(v, next) => Uint32Read::Got(Uint32(v as u32), next),
+            RawRead::Refused(f) => Uint32Read::Refused(f),
         }
     }
 
@@ -263,8 +249,8 @@ impl Cursor {
         ensures { λ r. ⌜ ReadUint64Promise (now (s .entry)) (self .at) r ⌝ }
     {
         match self.read_unsigned(s, 8) {
-            UnsignedRead::Got(v, next) => Uint64Read::Got(Uint64(v), next),
-            UnsignedRead::Refused(f) => Uint64Read::Refused(f),
+            RawRead::Got(v, next) => Uint64Read::Got(Uint64(v), next),
+            RawRead::Refused(f) => Uint64Read::Refused(f),
         }
     }
 
@@ -273,8 +259,8 @@ impl Cursor {
         ensures { λ r. ⌜ ReadVarintPromise (now (s .entry)) (self .at) r ⌝ }
     {
         match self.read_code(s, 4, 16) {
-            CodeRead::Got(c, next) => VarintRead::Got(Varint(decode_zigzag_32(c as u32)), next),
-            CodeRead::Refused(f) => VarintRead::Refused(f),
+            RawRead::Got(c, next) => VarintRead::Got(Varint(decode_zigzag_32(c as u32)), next),
+            RawRead::Refused(f) => VarintRead::Refused(f),
         }
     }
 
@@ -283,8 +269,8 @@ impl Cursor {
         ensures { λ r. ⌜ ReadVarlongPromise (now (s .entry)) (self .at) r ⌝ }
     {
         match self.read_code(s, 9, 2) {
-            CodeRead::Got(c, next) => VarlongRead::Got(Varlong(decode_zigzag_64(c)), next),
-            CodeRead::Refused(f) => VarlongRead::Refused(f),
+            RawRead::Got(c, next) => VarlongRead::Got(Varlong(decode_zigzag_64(c)), next),
+            RawRead::Refused(f) => VarlongRead::Refused(f),
         }
     }
 
@@ -330,30 +316,31 @@ impl Cursor {
     }
 
     // n bytes as one number, the highest byte first.
-    fn read_unsigned(self, s: &[u8], n: usize) -> UnsignedRead
+    fn read_unsigned(self, s: &[u8], n: usize) -> RawRead
         requires { ⌜ n ≤ 8 ⌝ }
-        ensures { λ r. ⌜ viewUnsigned r ≡ unsignedAt n (now (s .entry)) (self .at) ⌝ }
+        ensures { λ r. ⌜ viewRaw r ≡ unsignedAt n (now (s .entry)) (self .at) ⌝ }
     {
         let at = self.at;
         if s.len() < n {
-            return UnsignedRead::Refused(Fault::PastEnd);
+            return RawRead::Refused(Fault::PastEnd);
         }
         if s.len() - n < at {
-            return UnsignedRead::Refused(Fault::PastEnd);
+            return RawRead::Refused(Fault::PastEnd);
         }
         let mut v: u64 = 0;
         let mut i = 0;
         while i < n {
-            v = v * 256 + wide(s[at + i]);
+            let b = wide(s[at + i]);
+            v = v * 256 + b;
             i += 1;
         }
-        UnsignedRead::Got(v, Cursor { at: at + n })
+        RawRead::Got(v, Cursor { at: at + n })
     }
 
     // Both widths: at most `more` bytes with the top bit set, and a last one below `limit`.
-    fn read_code(self, s: &[u8], more: usize, limit: u64) -> CodeRead
+    fn read_code(self, s: &[u8], more: usize, limit: u64) -> RawRead
         requires { ⌜ Holds more limit ⌝ }
-        ensures { λ r. ⌜ viewCode r ≡ codeAt more limit (now (s .entry)) (self .at) ⌝ }
+        ensures { λ r. ⌜ viewRaw r ≡ codeAt more limit (now (s .entry)) (self .at) ⌝ }
     {
         let mut v: u64 = 0;
         let mut p: u64 = 1;
@@ -361,11 +348,11 @@ impl Cursor {
         let mut k = more;
         while 0 < k {
             if s.len() <= at {
-                return CodeRead::Refused(Fault::PastEnd);
+                return RawRead::Refused(Fault::PastEnd);
             }
             let b = wide(s[at]);
             if b < 128 {
-                return CodeRead::Got(v + p * b, Cursor { at: at + 1 });
+                return RawRead::Got(v + p * b, Cursor { at: at + 1 });
             }
             v += p * (b - 128);
             p *= 128;
@@ -373,13 +360,13 @@ impl Cursor {
             k -= 1;
         }
         if s.len() <= at {
-            return CodeRead::Refused(Fault::PastEnd);
+            return RawRead::Refused(Fault::PastEnd);
         }
         let b = wide(s[at]);
         if b < limit {
-            return CodeRead::Got(v + p * b, Cursor { at: at + 1 });
+            return RawRead::Got(v + p * b, Cursor { at: at + 1 });
         }
-        CodeRead::Refused(Fault::BeyondLimits)
+        RawRead::Refused(Fault::BeyondLimits)
     }
 }
 

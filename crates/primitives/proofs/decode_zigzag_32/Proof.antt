@@ -1,9 +1,8 @@
 -- `primitives::decode_zigzag_32` meets its contract: the masked half is the number in two's complement. Assumes nothing.
 use borrow.Author.Needs.{needs}
 use Prim.Native.Nat.{_/_, _^_, _<_}
-use mathlib.Core.Path.{refl, sym, subst, _∙_}
+use mathlib.Core.Path.{refl, _∙_}
 use native.Mathlib.Omega.{arith}
-use lib.IntN.{ℤ}
 use lib.Bits.{bitXor}
 use mir.Syntax.{w32, w64}
 use mir.Val.{SFits}

@@ -1,7 +1,7 @@
 -- `primitives::signed` meets its contract: below the half the number is v itself, and from there on it is
 -- -1 less what is missing to the largest. Assumes nothing.
 use borrow.Author.Needs.{needs}
-use Prim.Native.Nat.{ℕ, suc, _-_}
+use Prim.Native.Nat.{_-_}
 use mathlib.Core.Path.{sym, ap, _∙_}
 use native.Mathlib.Omega.{arith}
 use lib.IntN.{negsuc}

@@ -1,5 +1,5 @@
 -- `primitives::two_complement` meets its contract, by the sign of the number. Assumes nothing.
-use mathlib.Core.Path.{ap, _∙_}
+use mathlib.Core.Path.{ap}
 use native.Mathlib.Omega.{arith}
 use mir.Syntax.{w64}
 use Rattle.primitives.specs.Format.{complement}

@@ -2,7 +2,6 @@
 use Prim.Native.Nat.{_-_, _<_}
 use native.Mathlib.Omega.{arith}
 use borrow.Author.Needs.{needs}
-use lib.ListN.{getD}
 use Rattle.primitives.proofs.Turns.{Reading, begin, past, turn-room, turn-fits, ends, again, last-fits, lasts, beyond}
 use Rattle.primitives.proofs.Cursor.read_code.Statement.{statement}
 use Rattle.primitives.proofs.Cursor.read_code.Tie as tie

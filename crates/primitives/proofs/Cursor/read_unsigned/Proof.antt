@@ -1,6 +1,6 @@
 -- `primitives::Cursor::read_unsigned` meets its contract: after i bytes v is their number, which fits since they are at
 -- most eight. Assumes nothing.
-use Prim.Native.Nat.{ℕ, suc, _+_, _-_, _*_, _^_, _≤_, _<_}
+use Prim.Native.Nat.{ℕ, _+_, _-_, _*_, _^_, _≤_, _<_}
 use mathlib.Core.Path.{_≡_, refl, sym, ap, _∙_}
 use mathlib.Core.List.{List}
 use native.Mathlib.Omega.{arith}
@@ -50,9 +50,6 @@ loop-holds : tie.Need-loop-holds Inv-loop μ-loop
 unfolding big
 loop-holds c = record { within = omega arith; value = refl; below = omega arith }
 
-mul-v : tie.Need-mul-v Inv-loop μ-loop
-mul-v c = omega (arith, room _ _ _ _ _ (c .before .loop .inv) (c .loop-test .taken) (c .before .before .before .before .before .pre))
-
 add-wide : tie.Need-add-wide Inv-loop μ-loop
 add-wide c = omega arith
 
@@ -68,10 +65,17 @@ byte c =
     let a = c .before .before .before .before .before .before .before .args in
     omega (arith, c .wide .ensures, c .before .shared-slice-known2 .given (a .self .at + i))
 
-add-v : tie.Need-add-v Inv-loop μ-loop
-add-v c =
+-- what is read so far has room for one byte more
+holds : (c : tie.After-wide Inv-loop μ-loop) → c .before .before .before .loop .v < 256 ^ 7
+holds c =
     let d = c .before .before .before in
-    omega (arith, byte c, room _ _ _ _ _ (d .loop .inv) (c .before .before .loop-test .taken) (d .before .before .before .before .pre))
+    room _ _ _ _ _ (d .loop .inv) (c .before .before .loop-test .taken) (d .before .before .before .before .pre)
+
+mul-v : tie.Need-mul-v Inv-loop μ-loop
+mul-v c = omega (arith, byte c, holds c)
+
+add-v : tie.Need-add-v Inv-loop μ-loop
+add-v c = omega (arith, byte c, holds c)
 
 add-i : tie.Need-add-i Inv-loop μ-loop
 add-i c = omega arith
@@ -82,8 +86,8 @@ loop-less c = omega arith
 loop-again : tie.Need-loop-again Inv-loop μ-loop
 loop-again c = one-more _ _ _ _ _ _ (c .before .before .before .loop .inv) (c .before .before .loop-test .taken) (byte c) (c .wide .ensures)
 
-add-t7 : tie.Need-add-t7 Inv-loop μ-loop
-add-t7 c = omega arith
+add-t8 : tie.Need-add-t8 Inv-loop μ-loop
+add-t8 c = omega arith
 
 returns-3 : tie.Need-returns-3 Inv-loop μ-loop
 returns-3 c =
@@ -103,13 +107,13 @@ read-unsigned-spec =
     sub-if2
     returns-2
     loop-holds
-    mul-v
     add-wide
     shared-slice-read-wide
     wide-requires
+    mul-v
     add-v
     add-i
     loop-less
     loop-again
-    add-t7
+    add-t8
     returns-3)

@@ -1,6 +1,5 @@
 -- `primitives::Cursor::read_varint` meets its contract. Assumes nothing.
 use borrow.Author.Needs.{needs}
-use mir.Syntax.{w32}
 use Rattle.primitives.proofs.Numbers.{code-fits, number-got, number-refused}
 use Rattle.primitives.proofs.Cursor.read_varint.Statement.{statement}
 use Rattle.primitives.proofs.Cursor.read_varint.Tie as tie
