@@ -68,10 +68,10 @@ Tight true bs n = bs ≡ shortest n
 
 -- a number of w bits: a Varint where w is 32, a Varlong where it is 64
 pub record Varies (w : ℕ) (strict : Bool) (bs : List ℕ) (n : ℤ) : Type 0 where
-  pub more : ℕ
+  pub more : ℕ  -- how many bytes stand before the last
   pub is : bs ≡ groups more (zigzag n)
-  pub whole : zigzag n < 128 ^ suc more
-  pub short : more < most w
+  pub whole : zigzag n < 128 ^ suc more  -- all of the code is in these bytes
+  pub short : more < most w  -- and they are not too many
   pub fits : InBits w n
   pub tight : Tight strict bs n
 

@@ -1,0 +1,113 @@
+// One case: what its line expects, held to what the library answers.
+use crate::integer::Integer;
+use crate::reading;
+use crate::reading::Outcome;
+use crate::text::Number;
+use crate::text::Spelled;
+use crate::text::before;
+use crate::text::decimal;
+use crate::text::hexadecimal;
+use crate::text::same;
+use crate::text::word;
+use crate::text::words;
+use crate::writing;
+
+// The first word says what a case is about. A line that is no case agrees with nothing. Bytes are put into space.
+pub fn agrees(line: &[u8], space: &mut [u8]) -> bool {
+    let first = word(line, 0);
+    if same(first, b"put") {
+        return written(line, space);
+    }
+    read(line, first, space)
+}
+
+// put KIND VALUE HEX
+fn written(line: &[u8], space: &mut [u8]) -> bool {
+    if words(line) != 4 {
+        return false;
+    }
+    let Number::Is(n) = decimal(word(line, 2)) else {
+        return false;
+    };
+    let Spelled::Count(count) = hexadecimal(word(line, 3), space) else {
+        return false;
+    };
+    if space.len() < count {
+        return false;
+    }
+    writing::writes(word(line, 1), n, &space[..count])
+}
+
+// KIND HEX NUMBER [..], where KIND may have @K after it
+fn read(line: &[u8], first: &[u8], space: &mut [u8]) -> bool {
+    let n = before(first, b'@');
+    let Number::Is(at) = place(&first[n..]) else {
+        return false;
+    };
+    let Spelled::Count(count) = hexadecimal(word(line, 1), space) else {
+        return false;
+    };
+    if at.negative {
+        return false;
+    }
+    if space.len() < count {
+        return false;
+    }
+    let at = at.distance;
+    reading::read(&first[..n], &space[..count], at as usize).same(expected(line))
+}
+
+// The suffix is empty or starts with @.
+fn place(suffix: &[u8]) -> Number {
+    if suffix.len() == 0 {
+        return Number::Is(Integer::from_u64(0));
+    }
+    decimal(&suffix[1..])
+}
+
+fn expected(line: &[u8]) -> Outcome {
+    let n = words(line);
+    if n == 3 {
+        return refusal(line);
+    }
+    if !same(word(line, 2), b"0") {
+        return Outcome::Malformed;
+    }
+    if n == 5 {
+        return value(line);
+    }
+    if n == 6 {
+        return span(line);
+    }
+    Outcome::Malformed
+}
+
+fn refusal(line: &[u8]) -> Outcome {
+    let Number::Is(number) = decimal(word(line, 2)) else {
+        return Outcome::Malformed;
+    };
+    Outcome::Refused(number)
+}
+
+fn value(line: &[u8]) -> Outcome {
+    let Number::Is(n) = decimal(word(line, 3)) else {
+        return Outcome::Malformed;
+    };
+    let Number::Is(after) = decimal(word(line, 4)) else {
+        return Outcome::Malformed;
+    };
+    Outcome::Value(n, after)
+}
+
+fn span(line: &[u8]) -> Outcome {
+    let Number::Is(start) = decimal(word(line, 3)) else {
+        return Outcome::Malformed;
+    };
+    let Number::Is(len) = decimal(word(line, 4)) else {
+        return Outcome::Malformed;
+    };
+    let Number::Is(after) = decimal(word(line, 5)) else {
+        return Outcome::Malformed;
+    };
+    Outcome::Span(start, len, after)
+}

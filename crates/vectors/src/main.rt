@@ -1,0 +1,33 @@
+// Runs the library `primitives` on cases whose expectations come from elsewhere: those of the text on standard input,
+// and all strings of one byte and of two. It prints a line for each group of cases.
+mod cases;
+mod groups;
+mod integer;
+mod reading;
+mod strings;
+mod tally;
+mod text;
+mod writing;
+
+use libc::STDIN_FILENO;
+use tally::Tally;
+
+fn main() {
+    let mut text = io::large_buffer();
+    let n = io::read_full(STDIN_FILENO, &mut text);
+    let mut space = io::buffer();
+    let read = whole(groups::run(&text[..n], &mut space), n, text.len());
+    let one = strings::one_byte();
+    one.print(b"one byte, both widths");
+    let two = strings::two_bytes();
+    two.print(b"two bytes, both widths");
+    read.plus(one).plus(two).print(b"all");
+}
+
+// A text that fills its buffer may have been cut: that counts as a case that differs.
+fn whole(t: Tally, n: usize, room: usize) -> Tally {
+    if n < room {
+        return t;
+    }
+    t.with(false)
+}
