@@ -74,6 +74,6 @@ pub record Halved (half v : ℕ) : Type 0 where
   pub half-fits : half ≤ 2 ^ 63
   pub below : v < 2 * half
 
-pub record Holds (more limit : ℕ) : Type 0 where
+pub record Holds (full limit : ℕ) : Type 0 where
   pub some : 1 < limit
-  pub fits : 128 ^ more * limit ≤ 2 ^ 64
+  pub fits : 128 ^ full * limit ≤ 2 ^ 64

@@ -132,7 +132,7 @@ impl Int8 {
         ensures { λ r. ⌜ ToBeBytesPromise 1 (self .0) r ⌝ }
     {
         let n = self.0;
-        big_endian_1(two_complement(n as i64))
+        big_endian_1(twos_complement(n as i64))
     }
 }
 
@@ -141,7 +141,7 @@ impl Int16 {
         ensures { λ r. ⌜ ToBeBytesPromise 2 (self .0) r ⌝ }
     {
         let n = self.0;
-        big_endian_2(two_complement(n as i64))
+        big_endian_2(twos_complement(n as i64))
     }
 }
 
@@ -150,7 +150,7 @@ impl Int32 {
         ensures { λ r. ⌜ ToBeBytesPromise 4 (self .0) r ⌝ }
     {
         let n = self.0;
-        big_endian_4(two_complement(n as i64))
+        big_endian_4(twos_complement(n as i64))
     }
 }
 
@@ -159,7 +159,7 @@ impl Int64 {
         ensures { λ r. ⌜ ToBeBytesPromise 8 (self .0) r ⌝ }
     {
         let n = self.0;
-        big_endian_8(two_complement(n))
+        big_endian_8(twos_complement(n))
     }
 }
 
@@ -182,6 +182,11 @@ impl Uint64 {
 }
 
 impl Varint {
+    // At most five bytes, the fifth at most 15.
+    const FULL: usize = 4;
+
+    const LIMIT: u64 = 16;
+
     pub fn encode(self) -> Encoded
         ensures { λ r. ⌜ EncodePromise (self .0) r ⌝ }
     {
@@ -191,6 +196,11 @@ impl Varint {
 }
 
 impl Varlong {
+    // At most ten bytes, the tenth at most 1.
+    const FULL: usize = 9;
+
+    const LIMIT: u64 = 2;
+
     pub fn encode(self) -> Encoded
         ensures { λ r. ⌜ EncodePromise (self .0) r ⌝ }
     {
@@ -254,21 +264,21 @@ impl Cursor {
         }
     }
 
-    // At most five bytes, the fifth at most 15. More bytes than needed are read too.
+    // Longer than needed is read too.
     pub fn read_varint(self, s: &[u8]) -> VarintRead
         ensures { λ r. ⌜ ReadVarintPromise (now (s .entry)) (self .at) r ⌝ }
     {
-        match self.read_code(s, 4, 16) {
+        match self.read_code(s, Varint::FULL, Varint::LIMIT) {
             RawRead::Got(c, next) => VarintRead::Got(Varint(decode_zigzag_32(c as u32)), next),
             RawRead::Refused(f) => VarintRead::Refused(f),
         }
     }
 
-    // At most ten bytes, the tenth at most 1. More bytes than needed are read too.
+    // Longer than needed is read too.
     pub fn read_varlong(self, s: &[u8]) -> VarlongRead
         ensures { λ r. ⌜ ReadVarlongPromise (now (s .entry)) (self .at) r ⌝ }
     {
-        match self.read_code(s, 9, 2) {
+        match self.read_code(s, Varlong::FULL, Varlong::LIMIT) {
             RawRead::Got(c, next) => VarlongRead::Got(Varlong(decode_zigzag_64(c)), next),
             RawRead::Refused(f) => VarlongRead::Refused(f),
         }
@@ -337,15 +347,15 @@ impl Cursor {
         RawRead::Got(v, Cursor { at: at + n })
     }
 
-    // Both widths: at most `more` bytes with the top bit set, and a last one below `limit`.
-    fn read_code(self, s: &[u8], more: usize, limit: u64) -> RawRead
-        requires { ⌜ Holds more limit ⌝ }
-        ensures { λ r. ⌜ viewRaw r ≡ codeAt more limit (now (s .entry)) (self .at) ⌝ }
+    // Both widths: at most `full` bytes with the top bit set, and a last one below `limit`.
+    fn read_code(self, s: &[u8], full: usize, limit: u64) -> RawRead
+        requires { ⌜ Holds full limit ⌝ }
+        ensures { λ r. ⌜ viewRaw r ≡ codeAt full limit (now (s .entry)) (self .at) ⌝ }
     {
         let mut v: u64 = 0;
         let mut p: u64 = 1;
         let mut at = self.at;
-        let mut k = more;
+        let mut k = full;
         while 0 < k {
             if s.len() <= at {
                 return RawRead::Refused(Fault::PastEnd);
@@ -388,7 +398,7 @@ fn signed(v: u64, half: u64) -> i64
     }
 }
 
-fn two_complement(n: i64) -> u64
+fn twos_complement(n: i64) -> u64
     ensures { λ r. ⌜ r ≡ complement 64 n ⌝ }
 {
     if 0 <= n {
@@ -439,7 +449,7 @@ fn big_endian_8(v: u64) -> [u8; 8]
 fn encode_zigzag(n: i64) -> u64
     ensures { λ r. ⌜ r ≡ zigzag n ⌝ }
 {
-    let v = two_complement(n);
+    let v = twos_complement(n);
     if v < 0x8000_0000_0000_0000 {
         2 * v
     } else {

@@ -20,11 +20,11 @@ high-half : (n : ℤ) (v : ℕ) → SFits w64 n → v ≡ complement 64 n → 2 
 high-half (pos m) v f e h = absurd (omega (arith, f .sfits))
 high-half (negsuc k) v f e h = omega (arith, f .sfits)
 
-given : (c : tie.After-two-complement) → c .two-complement .result ≡ complement 64 (c .before .args .n)
-given c = c .two-complement .ensures ∙ ap (complement 64) (toZ-ofZ w64 (c .before .args .n) (c .before .fits .n))
+given : (c : tie.After-twos-complement) → c .twos-complement .result ≡ complement 64 (c .before .args .n)
+given c = c .twos-complement .ensures ∙ ap (complement 64) (toZ-ofZ w64 (c .before .args .n) (c .before .fits .n))
 
-two-complement-requires : tie.Need-two-complement-requires
-two-complement-requires c κs = search needs
+twos-complement-requires : tie.Need-twos-complement-requires
+twos-complement-requires c κs = search needs
 
 mul-result : tie.Need-mul-result
 mul-result c = search needs
@@ -48,7 +48,7 @@ pub encode-zigzag-spec : {M : Type 1} → statement M
 encode-zigzag-spec =
     tie.close
     (tie.spec
-    two-complement-requires
+    twos-complement-requires
     mul-result
     sub-result
     mul-result-2

@@ -7,10 +7,10 @@ use Rattle.primitives.proofs.Cursor.read_code.Statement.{statement}
 use Rattle.primitives.proofs.Cursor.read_code.Tie as tie
 
 abbrev Inv-loop : tie.InvT-loop
-Inv-loop s more limit v₀ p₀ at₀ k₀ v p at k = Reading s at₀ more limit v p at k
+Inv-loop s full limit v₀ p₀ at₀ k₀ v p at k = Reading s at₀ full limit v p at k
 
 abbrev μ-loop : tie.MeasureT-loop
-μ-loop s more limit v₀ p₀ at₀ k₀ v p at k = k
+μ-loop s full limit v₀ p₀ at₀ k₀ v p at k = k
 
 loop-holds : tie.Need-loop-holds Inv-loop μ-loop
 loop-holds c = begin _ _ _ _ (c .before .pre)

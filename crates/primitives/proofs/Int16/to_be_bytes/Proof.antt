@@ -7,18 +7,18 @@ use Rattle.primitives.proofs.Signs.{widen-fits}
 use Rattle.primitives.proofs.Int16.to_be_bytes.Statement.{statement}
 use Rattle.primitives.proofs.Int16.to_be_bytes.Tie as tie
 
-cast-two-complement : tie.Need-cast-two-complement
-cast-two-complement c = widen-fits w16 w64 (c .before .args .self .0) (lit≤ tt) (search needs)
+cast-twos-complement : tie.Need-cast-twos-complement
+cast-twos-complement c = widen-fits w16 w64 (c .before .args .self .0) (lit≤ tt) (search needs)
 
-two-complement-requires : tie.Need-two-complement-requires
-two-complement-requires c κs = search needs
+twos-complement-requires : tie.Need-twos-complement-requires
+twos-complement-requires c κs = search needs
 
 big-endian-2-requires : tie.Need-big-endian-2-requires
 big-endian-2-requires c κs = search needs
 
 returns : tie.Need-returns
-returns c = narrow-bytes w16 (c .before .before .before .args .self .0) _ _ (lit≤ tt) (search needs) (c .before .two-complement .ensures) (c .big-endian-2 .ensures)
+returns c = narrow-bytes w16 (c .before .before .before .args .self .0) _ _ (lit≤ tt) (search needs) (c .before .twos-complement .ensures) (c .big-endian-2 .ensures)
 
 pub to-be-bytes-spec : {M : Type 1} → statement M
 to-be-bytes-spec =
-    tie.close (tie.spec cast-two-complement two-complement-requires big-endian-2-requires returns)
+    tie.close (tie.spec cast-twos-complement twos-complement-requires big-endian-2-requires returns)

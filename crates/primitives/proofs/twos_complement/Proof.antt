@@ -1,11 +1,11 @@
--- `primitives::two_complement` meets its contract, by the sign of the number. Assumes nothing.
+-- `primitives::twos_complement` meets its contract, by the sign of the number. Assumes nothing.
 use mathlib.Core.Path.{ap}
 use native.Mathlib.Omega.{arith}
 use mir.Syntax.{w64}
 use Rattle.primitives.specs.Format.{complement}
 use Rattle.primitives.proofs.Signs.{nonnegative, negative, negative-fits}
-use Rattle.primitives.proofs.two_complement.Statement.{statement}
-use Rattle.primitives.proofs.two_complement.Tie as tie
+use Rattle.primitives.proofs.twos_complement.Statement.{statement}
+use Rattle.primitives.proofs.twos_complement.Tie as tie
 
 cast-result : tie.Need-cast-result
 cast-result c =
@@ -33,6 +33,6 @@ returns-2 c =
     let u = negative w64 (c .before .args .n) (c .before .fits .n) (c .if1 .left) in
     omega (arith, ap (complement 64) (u .is))
 
-pub two-complement-spec : {M : Type 1} → statement M
-two-complement-spec =
+pub twos-complement-spec : {M : Type 1} → statement M
+twos-complement-spec =
     tie.close (tie.spec cast-result sub-result cast-result-2 sub-result-2 returns returns-2)
