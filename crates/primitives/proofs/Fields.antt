@@ -24,7 +24,7 @@ use Rattle.primitives.proofs.Integers.{unsigned-sound, complement-narro
 use Rattle.primitives.proofs.Signs.{signed-fits, cast-fits, cast-back, widen-back}
 
 -- ---- the width of a type: as many bytes, whose numbers its half splits in two
-pub halves : (w : Width) → 256 ^ bytes w ≡ 2 * 2 ^ hbits w
+halves : (w : Width) → 256 ^ bytes w ≡ 2 * 2 ^ hbits w
 halves w8 = refl
 halves w16 = refl
 halves w32 = refl

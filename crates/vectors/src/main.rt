@@ -17,9 +17,9 @@ fn main() {
     let n = io::read_full(STDIN_FILENO, &mut text);
     let mut space = io::buffer();
     let read = whole(groups::run(&text[..n], &mut space), n, text.len());
-    let one = strings::one_byte();
+    let one = strings::one_byte().settled();
     one.print(b"one byte, both widths");
-    let two = strings::two_bytes();
+    let two = strings::two_bytes().settled();
     two.print(b"two bytes, both widths");
     read.plus(one).plus(two).print(b"all");
 }
