@@ -1,0 +1,20 @@
+// CRC-32C (Castagnoli), the checksum of RFC 3720.
+mod table;
+
+ghost use mathlib.Core.Path.{_≡_};
+ghost use Rattle.crc32c.specs.Promises.{Crc32cPromise, UpdatePromise};
+
+const ONES: u32 = 0xFFFF_FFFF;
+
+pub fn crc32c(s: &[u8]) -> u32
+    ensures { λ r. ⌜ Crc32cPromise (now (s .entry)) r ⌝ }
+{
+    update(0, s)
+}
+
+// The checksum of bytes that come in parts: `state` is that of the parts before `s`, and 0 where `s` is the first.
+pub fn update(state: u32, s: &[u8]) -> u32
+    ensures { λ r. ⌜ UpdatePromise state (now (s .entry)) r ⌝ }
+{
+    table::divide(state ^ ONES, s) ^ ONES
+}
