@@ -1,15 +1,14 @@
 -- Laws of the division's steps, over the polynomial. A step is linear, so n steps are, and each law splits a register into
 -- what the steps turn into the polynomial and what they only move. Assumes nothing.
 use Prim.Native.Nat.{ℕ, zero, suc, _+_, _*_, _/_, _%_, _^_, _<_}
-use native.Mathlib.Nat.{mod-lt, zero-lt-suc, mul-mod-left, mul-div-cancel, mul-one, one-mul, zero-mul, pow-suc, mul-assoc, zero-add, suc-add, div-eq-of-lt}
+use native.Mathlib.Nat.{zero-lt-suc, mul-mod-left, mul-div-cancel, mul-one, one-mul, zero-mul, pow-suc, mul-assoc, zero-add, suc-add, div-eq-of-lt}
 use native.Mathlib.Omega.{arith}
 use mathlib.Core.Path.{_≡_, refl, sym, ap, ap₂, _∙_}
-use lib.Pow.{pow-pos, split}
 use lib.Bits.{bitXor, differ, xor-zero-r, xor-comm, xor-self, xor-shr, xor-shifted}
 use lib.Dec.{lit<, lit≤}
-use Rattle.crc32c.specs.Crc.{bitStep, steps, castagnoli, reflect, generator, Reflected}
+use Rattle.crc32c.specs.Crc.{bitStep, steps, reflect, generator}
 use Rattle.crc32c.specs.Statements.{StepDivides, CastagnoliReflects, CastagnoliReflected, StepsLinear, StepsSplit}
-use Rattle.crc32c.proofs.Xor.{bit-lt, xor-half, xor-odd, xor-mid, xor-shl}
+use Rattle.crc32c.proofs.Xor.{bit-lt, xor-half, xor-odd, xor-mid, xor-shl, xor-split}
 
 -- ---- linear
 
@@ -68,7 +67,7 @@ bitStep-steps p (suc n) a = bitStep-steps p n (bitStep p a)
 
 pub steps-split : StepsSplit
 steps-split p n a =
-    ap (steps p n) (sym (xor-shifted (a / 2 ^ n) n (a % 2 ^ n) (mod-lt a (pow-pos n)) ∙ split a n))
+    ap (steps p n) (sym (xor-split a n))
     ∙ steps-linear p n (a / 2 ^ n * 2 ^ n) (a % 2 ^ n)
     ∙ ap (λ (x : ℕ). bitXor x (steps p n (a % 2 ^ n))) (steps-shift p n (a / 2 ^ n))
     ∙ xor-comm (a / 2 ^ n) (steps p n (a % 2 ^ n))
@@ -95,7 +94,7 @@ unfolding bitStep
 step-divides p c =
     let t = c % 2 * p in
     let h = c / 2 * 2 in
-    ap₂ bitXor (sym (xor-shifted (c / 2) 1 (c % 2) (bit-lt c) ∙ split c 1) ∙ xor-comm h (c % 2)) (xor-shl 1 t (c / 2))
+    ap₂ bitXor (sym (xor-split c 1) ∙ xor-comm h (c % 2)) (xor-shl 1 t (c / 2))
     ∙ xor-mid (c % 2) h (t * 2) h
     ∙ ap (bitXor (bitXor (c % 2) (t * 2))) (xor-self h)
     ∙ xor-zero-r (bitXor (c % 2) (t * 2))

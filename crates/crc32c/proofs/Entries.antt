@@ -1,7 +1,7 @@
 -- A rule of a list's entries, proved at all of them by one test that is computed, entry after entry. Assumes nothing.
 use Prim.Native.Nat.{ℕ, zero, suc, _+_, _<_}
 use native.Mathlib.Nat.{add-zero, zero-add, add-suc, suc-add, le-of-suc-le-suc, not-suc-le-zero}
-use mathlib.Core.Path.{_≡_, _∙_, subst, sym}
+use mathlib.Core.Path.{_∙_, subst, sym}
 use mathlib.Core.Bool.{Bool, true, false}
 use mathlib.Core.List.{List, [], _∷_}
 use lib.Dec.{T}

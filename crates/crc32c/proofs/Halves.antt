@@ -11,10 +11,10 @@ use lib.Bits.{bitXor, xor-comm, xor-shifted}
 use lib.Dec.{eqb, eqb→eq, T}
 use lib.ListN.{length, getD, take, drop, take-append-drop, length-drop, drop-of-length-le}
 use lib.Seq.{take-all, getD-take, getD-drop, drop-drop, length-take-le, drop-cons}
-use Rattle.crc32c.specs.Crc.{bitStep, steps, over, castagnoli, number, numberOf}
+use Rattle.crc32c.specs.Crc.{steps, over, castagnoli, number}
 use Rattle.crc32c.specs.Table.{IsTable}
 use Rattle.crc32c.proofs.Xor.{xor-assoc}
-use Rattle.crc32c.proofs.Division.{steps-linear, steps-shift, steps-add, byte-split}
+use Rattle.crc32c.proofs.Division.{steps-linear, steps-shift, steps-add}
 use Rattle.crc32c.proofs.Joined.{over-joined}
 use Rattle.crc32c.proofs.Numbers.{over-number, number-same, number-sum, number-split}
 use Rattle.crc32c.proofs.Entries.{every, passed}

@@ -1,8 +1,12 @@
 pub mod Division
 pub mod Entries
+pub mod Folds
 pub mod Halves
 pub mod Injective
 pub mod Joined
+pub mod Kept
+pub mod Multiple
 pub mod Numbers
 pub mod Single
+pub mod Stored
 pub mod Xor

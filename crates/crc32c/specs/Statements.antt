@@ -1,6 +1,6 @@
 -- The laws of the checksum, each in words and then as a statement over the reflected polynomial p. What proves each stands
 -- in proofs/ under the statement's name in small letters: `checksum-joined : ChecksumJoined`.
-use Prim.Native.Nat.{ℕ, _+_, _*_, _/_, _%_, _^_, _<_, _≤_}
+use Prim.Native.Nat.{ℕ, _*_, _/_, _%_, _^_, _<_, _≤_}
 use mathlib.Core.Path.{_≡_}
 use mathlib.Core.List.{List, _++_}
 use lib.Bits.{bitXor}

@@ -1,10 +1,14 @@
 // CRC-32C (Castagnoli), the checksum of RFC 3720.
+mod folding;
 mod table;
 
 ghost use mathlib.Core.Path.{_≡_};
 ghost use Rattle.crc32c.specs.Promises.{Crc32cPromise, UpdatePromise};
 
 const ONES: u32 = 0xFFFF_FFFF;
+
+// From this length on it pays to fold.
+const LONG: usize = 400;
 
 pub fn crc32c(s: &[u8]) -> u32
     ensures { λ r. ⌜ Crc32cPromise (now (s .entry)) r ⌝ }
@@ -16,5 +20,10 @@ pub fn crc32c(s: &[u8]) -> u32
 pub fn update(state: u32, s: &[u8]) -> u32
     ensures { λ r. ⌜ UpdatePromise state (now (s .entry)) r ⌝ }
 {
-    table::divide(state ^ ONES, s) ^ ONES
+    let register = state ^ ONES;
+    if s.len() < LONG {
+        return table::divide(register, s) ^ ONES;
+    }
+    let rest = folding::fold(register, s);
+    table::divide(0, &rest) ^ ONES
 }
