@@ -1,8 +1,9 @@
 -- CRC-32C, RFC 3720, 12.1 and B.4: the remainder of a division of polynomials over the numbers 0 and 1, a bit at a time,
 -- the register all ones at the start and complemented at the end.
 --
--- A register is a number of 32 bits whose lowest bit is the highest power, so that the polynomial stands reflected. All
--- but the last two definitions are over the reflected polynomial p: another checksum of this kind is another p.
+-- A register is a number of 32 bits whose lowest bit is the highest power, so that the polynomial stands reflected. Only
+-- `castagnoli` and `crc32c` name a polynomial; all else is over the reflected polynomial p, and another checksum of this
+-- kind is another p.
 use Prim.Native.Nat.{ℕ, zero, suc, _+_, _*_, _/_, _%_, _^_, _<_, _≤_}
 use mathlib.Core.List.{List, [], _∷_}
 use lib.Bits.{bitXor}

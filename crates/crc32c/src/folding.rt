@@ -1,5 +1,8 @@
 // Folding: a long list becomes 209 bytes that leave the same register. It needs no table, and its loops are such that
 // the compiler can take many bytes at once.
+//
+// A window is 209 bytes, as many as the highest power of the multiple. It moves up an array of 209 + 1024 bytes and is
+// brought back to the start after each 1024.
 ghost use mathlib.Core.Path.{_≡_};
 ghost use Prim.Native.Nat.{ℕ, _+_, _≤_, _<_};
 ghost use lib.ListN.{length, getD};
@@ -71,7 +74,7 @@ fn slide(w: &mut [u8; 1233])
     }
 }
 
-// The window from place k, with zeros after it.
+// The window from place k, with as many zeros after it.
 fn alone(w: &[u8; 1233], k: usize) -> [u8; 418]
     requires { ⌜ k ≤ 1024 ⌝ }
     requires { ⌜ Bytes (now w) ⌝ }

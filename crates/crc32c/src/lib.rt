@@ -10,6 +10,7 @@ const ONES: u32 = 0xFFFF_FFFF;
 // From this length on it pays to fold.
 const LONG: usize = 400;
 
+// The checksum of all of `s`.
 pub fn crc32c(s: &[u8]) -> u32
     ensures { λ r. ⌜ Crc32cPromise (now (s .entry)) r ⌝ }
 {
