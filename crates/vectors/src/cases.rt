@@ -1,4 +1,7 @@
 // One case: what its line expects, held to what the library answers.
+use crate::characters;
+use crate::characters::AROUND;
+use crate::checksums;
 use crate::integer::Integer;
 use crate::reading;
 use crate::reading::Outcome;
@@ -18,6 +21,15 @@ pub fn agrees(line: &[u8], space: &mut [u8]) -> bool {
     if same(first, b"put") {
         return written(line, space);
     }
+    if same(first, b"crc32c") {
+        return summed(line, space);
+    }
+    if same(first, b"crc32c-run") {
+        return run_summed(line, space);
+    }
+    if same(first, b"utf8") {
+        return judged(line, space);
+    }
     read(line, first, space)
 }
 
@@ -36,6 +48,68 @@ fn written(line: &[u8], space: &mut [u8]) -> bool {
         return false;
     }
     writing::writes(word(line, 1), n, &space[..count])
+}
+
+// crc32c HEX SUM
+fn summed(line: &[u8], space: &mut [u8]) -> bool {
+    if words(line) != 3 {
+        return false;
+    }
+    let Number::Is(sum) = decimal(word(line, 2)) else {
+        return false;
+    };
+    let Spelled::Count(count) = hexadecimal(word(line, 1), space) else {
+        return false;
+    };
+    if space.len() < count {
+        return false;
+    }
+    checksums::sums_to(&space[..count], sum)
+}
+
+// crc32c-run LENGTH SEED SUM
+fn run_summed(line: &[u8], space: &mut [u8]) -> bool {
+    if words(line) != 4 {
+        return false;
+    }
+    let Number::Is(length) = decimal(word(line, 1)) else {
+        return false;
+    };
+    let Number::Is(seed) = decimal(word(line, 2)) else {
+        return false;
+    };
+    let Number::Is(sum) = decimal(word(line, 3)) else {
+        return false;
+    };
+    if length.negative || seed.negative {
+        return false;
+    }
+    let length = length.distance;
+    let count = length as usize;
+    if space.len() < count {
+        return false;
+    }
+    checksums::run(seed.distance, &mut space[..count]);
+    checksums::sums_to(&space[..count], sum)
+}
+
+// utf8 HEX VERDICT
+fn judged(line: &[u8], space: &mut [u8]) -> bool {
+    if words(line) != 3 {
+        return false;
+    }
+    if space.len() < AROUND {
+        return false;
+    }
+    characters::fill_with_ascii(space);
+    let Spelled::Count(count) = hexadecimal(word(line, 1), &mut space[AROUND..]) else {
+        return false;
+    };
+    let verdict = word(line, 2);
+    if same(verdict, b"1") {
+        return characters::judges(space, count, true);
+    }
+    same(verdict, b"0") && characters::judges(space, count, false)
 }
 
 // KIND HEX NUMBER [..], where KIND may have @K after it
