@@ -1,7 +1,6 @@
--- A character is an octet of a row with an octet in each range that the row asks for: constructor by constructor, in both
--- directions. Assumes nothing.
+-- A character is an octet of a row with an octet in each range that the row asks for: constructor by constructor, in
+-- both directions. Assumes nothing.
 use Prim.Native.Nat.{ℕ}
-use mathlib.Core.Path.{_≡_}
 use mathlib.Core.Option.{some}
 use mathlib.Core.List.{List, [], _∷_}
 use Rattle.utf8.specs.Grammar.{Within, Char, utf8-1, utf8-2, utf8-3-E0, utf8-3-E1, utf8-3-ED, utf8-3-EE, utf8-4-F0, utf8-4-F1, utf8-4-F4}

@@ -1,7 +1,7 @@
--- The octets of a number by its size, and back: each row of the grammar is a stretch of numbers, so a character is in a row,
--- and what is in a row are the octets of a character. Assumes nothing.
+-- The octets are the digits of the number, six bits in each tail: its size tells which row they are in, and the number
+-- is made from them again. Assumes nothing.
 use Prim.Native.Nat.{ℕ, _+_, _-_, _*_, _/_, _%_, _≤_, _<_}
-use mathlib.Core.Path.{_≡_, refl, sym, ap, _∙_, subst}
+use mathlib.Core.Path.{_≡_, refl, sym, ap, _∙_}
 use mathlib.Core.Logic.{_⊎_, inl, inr}
 use mathlib.Core.List.{List, [], _∷_}
 use native.Mathlib.Omega.{arith}
@@ -54,24 +54,24 @@ scalar-unambiguous v w x y e = sym (number-back v) ∙ ap numberOf e ∙ number-
 
 -- ---- the octets of a character are in a row
 
-by : {c d : List ℕ} → c ≡ d → Char d → Char c
-by e x = rw e x
+shown : {c d : List ℕ} → c ≡ d → Char d → Char c
+shown e x = rw e x
 
 no-surrogate-above : {v : ℕ} → Scalar v → 0xD7FF < v → 0xDFFF < v
 no-surrogate-above x h = elim (x .no-surrogate) [ inl k ↦ omega arith | inr k ↦ k ]
 
 pub scalar-char : ScalarChar
 scalar-char v x =
-    upTo 0x7F v (λ k. by (octets-1 v (omega arith)) (utf8-1 (omega arith))) λ h.
-    upTo 0x7FF v (λ k. by (octets-2 v (omega arith)) (utf8-2 (omega arith) (omega arith))) λ h.
-    upTo 0xFFF v (λ k. by (octets-3 v (omega arith)) (utf8-3-E0 (omega arith) (omega arith) (omega arith))) λ h.
-    upTo 0xCFFF v (λ k. by (octets-3 v (omega arith)) (utf8-3-E1 (omega arith) (omega arith) (omega arith))) λ h.
-    upTo 0xD7FF v (λ k. by (octets-3 v (omega arith)) (utf8-3-ED (omega arith) (omega arith) (omega arith))) λ h.
+    upTo 0x7F v (λ k. shown (octets-1 v (omega arith)) (utf8-1 (omega arith))) λ h.
+    upTo 0x7FF v (λ k. shown (octets-2 v (omega arith)) (utf8-2 (omega arith) (omega arith))) λ h.
+    upTo 0xFFF v (λ k. shown (octets-3 v (omega arith)) (utf8-3-E0 (omega arith) (omega arith) (omega arith))) λ h.
+    upTo 0xCFFF v (λ k. shown (octets-3 v (omega arith)) (utf8-3-E1 (omega arith) (omega arith) (omega arith))) λ h.
+    upTo 0xD7FF v (λ k. shown (octets-3 v (omega arith)) (utf8-3-ED (omega arith) (omega arith) (omega arith))) λ h.
     let h = no-surrogate-above x h in
-    upTo 0xFFFF v (λ k. by (octets-3 v (omega arith)) (utf8-3-EE (omega arith) (omega arith) (omega arith))) λ h.
-    upTo 0x3FFFF v (λ k. by (octets-4 v (omega arith)) (utf8-4-F0 (omega arith) (omega arith) (omega arith) (omega arith))) λ h.
-    upTo 0xFFFFF v (λ k. by (octets-4 v (omega arith)) (utf8-4-F1 (omega arith) (omega arith) (omega arith) (omega arith))) λ h.
-    by (octets-4 v (omega arith)) (utf8-4-F4 (omega (arith, x .most)) (omega (arith, x .most)) (omega arith) (omega arith))
+    upTo 0xFFFF v (λ k. shown (octets-3 v (omega arith)) (utf8-3-EE (omega arith) (omega arith) (omega arith))) λ h.
+    upTo 0x3FFFF v (λ k. shown (octets-4 v (omega arith)) (utf8-4-F0 (omega arith) (omega arith) (omega arith) (omega arith))) λ h.
+    upTo 0xFFFFF v (λ k. shown (octets-4 v (omega arith)) (utf8-4-F1 (omega arith) (omega arith) (omega arith) (omega arith))) λ h.
+    shown (octets-4 v (omega arith)) (utf8-4-F4 (omega (arith, x .most)) (omega (arith, x .most)) (omega arith) (omega arith))
 
 -- ---- what is in a row are the octets of a character
 

@@ -1,5 +1,5 @@
--- What follows a first octet, row by row: the rows do not meet, so an octet within one is beyond those before it, and each
--- octet is within one, between two or beyond them all. Assumes nothing.
+-- What follows a first octet, row by row: the rows do not meet, so an octet within one is beyond those before it, and
+-- each octet is within one, between two or beyond them all. Assumes nothing.
 use Prim.Native.Nat.{ℕ, _≤_, _<_}
 use mathlib.Core.Path.{_≡_, refl, sym, subst}
 use mathlib.Core.Bool.{Bool, true, false}

@@ -1,15 +1,14 @@
--- The judgement is the grammar's: octets that lie in the ranges of their row are passed over, and nothing else is. Assumes
--- nothing.
+-- The judgement is the grammar's: octets that lie in the ranges of their row are passed over, and nothing else is.
+-- Assumes nothing.
 use Prim.Native.Nat.{ℕ}
-use mathlib.Core.Path.{_≡_, refl, sym, ap, _∙_, subst}
-use mathlib.Core.Bool.{Bool, true, false}
+use mathlib.Core.Path.{_≡_, refl, _∙_, subst}
+use mathlib.Core.Bool.{Bool, true, false, false≢true}
 use mathlib.Core.Option.{Option, none, some}
 use mathlib.Core.List.{List, [], _∷_, _++_}
-use native.Mathlib.Omega.{arith}
 use borrow.Author.Tests.{leb-true}
 use lib.Dec.{leb}
 use Rattle.primitives.specs.Pick.{pick}
-use Rattle.utf8.specs.Grammar.{Within, Char, Octets}
+use Rattle.utf8.specs.Grammar.{Octets}
 use Rattle.utf8.specs.Judgement.{Range, holds, after, goesOn}
 use Rattle.utf8.specs.Statements.{Utf8Sound, Utf8Complete, CharInFront, CharUnambiguous}
 use Rattle.utf8.proofs.Rows.{inside, Row, row-after, after-row}
@@ -39,12 +38,9 @@ utf8-complete s (Octets.more {c} {s = t} x o) = char-in-front c t x ∙ utf8-com
 data Rest (rs : List Range) : List ℕ → Type 0 where
   rest : {t s : List ℕ} → Fits rs t → Octets s → Rest rs (t ++ s)
 
-no-truth : {A : Type 0} → false ≡ true → A
-no-truth e = absurd (let z : _≡_ {A = ℕ} 0 1 = cc in omega arith)
-
 both : (x y : Bool) → pick x y false ≡ true → (x ≡ true) × (y ≡ true)
 both true y e = (refl, e)
-both false y e = no-truth e
+both false y e = absurd (false≢true e)
 
 next : (r : Range) (b : ℕ) {rs : List Range} {s : List ℕ} → holds r b ≡ true → Rest rs s → Rest (r ∷ rs) (b ∷ s)
 next r b e (rest f o) =
@@ -56,14 +52,14 @@ begin r (rest f o) = rest all (Octets.more (begun-char r f) o)
 
 by-row : {a : ℕ} (o : Option (List Range)) (s : List ℕ) → Row a o → elim o [ none ↦ false | some rs ↦ goesOn rs s ] ≡ true
     → ((rs : List Range) → goesOn rs s ≡ true → Rest rs s) → Rest [] (a ∷ s)
-by-row none s r e k = no-truth e
+by-row none s r e k = absurd (false≢true e)
 by-row (some rs) s r e k = begin r (k rs e)
 
 sound : (rs : List Range) (s : List ℕ) → goesOn rs s ≡ true → Rest rs s
 unfolding goesOn
 sound [] [] e = rest all Octets.none
 sound [] (a ∷ s) e = by-row (after a) s (after-row a) e (λ rs. sound rs s)
-sound (r ∷ rs) [] e = no-truth e
+sound (r ∷ rs) [] e = absurd (false≢true e)
 sound (r ∷ rs) (b ∷ s) e =
     let (h, f) = both (holds r b) (goesOn rs s) e in
     next r b h (sound rs s f)

@@ -2,23 +2,24 @@
 -- passes leaves the judgement of those behind it. Assumes nothing.
 use Prim.Native.Nat.{ℕ, _+_, _-_, _≤_, _<_}
 use mathlib.Core.Path.{_≡_, refl, sym, _∙_}
-use mathlib.Core.Bool.{Bool, true, false}
+use mathlib.Core.Bool.{Bool, true, false, not}
 use mathlib.Core.Option.{none, some}
 use mathlib.Core.List.{List, [], _∷_}
 use native.Mathlib.Numerals.{add-one}
 use native.Mathlib.Omega.{arith}
-use borrow.Author.Tests.{ne-eqb}
+use borrow.Author.Tests.{not-true, not-false, ne-eqb}
 use lib.ListN.{length, getD, drop, length-drop, drop-of-length-le}
 use lib.Seq.{drop-cons}
 use Rattle.primitives.specs.Pick.{pick}
-use Rattle.utf8.specs.Judgement.{Range, holds, after, goesOn}
+use Rattle.utf8.specs.Judgement.{Range, holds, goesOn}
 use Rattle.utf8.specs.Steps.{Passed, Judged}
 use Rattle.utf8.proofs.Rows.{Row, row-1, row-after}
 
 pub begin : {rs : List Range} {s : List ℕ} {at : ℕ} → Passed rs s at rs at
 begin = record { same = refl }
 
-pub moved : {rs : List Range} {s : List ℕ} {at : ℕ} {left : List Range} {now next : ℕ} → Passed rs s at left now → now ≡ next → Passed rs s at left next
+pub moved : {rs : List Range} {s : List ℕ} {at : ℕ} {left : List Range} {now next : ℕ}
+    → Passed rs s at left now → now ≡ next → Passed rs s at left next
 moved x e = rw e at x
 
 -- ---- an octet in a range that is asked for
@@ -28,13 +29,13 @@ asked : (r : Range) (rs : List Range) (s : List ℕ) (k : ℕ) → k < length s
 unfolding goesOn
 asked r rs s k h = rw (add-one, drop-cons s k 0)
 
-module _ {rs : List Range} {s : List ℕ} {at : ℕ} {r : Range} {left : List Range} {now : ℕ}
-    (h : now < length s) (x : Passed rs s at (r ∷ left) now) where
-  pub pass : true ≡ holds r (getD s now 0) → Passed rs s at left (now + 1)
-  pass e = record { same = x .same ∙ asked r left s now h ∙ rw (sym e) }
+module _ {rs : List Range} {s : List ℕ} {at : ℕ} {r : Range} {left : List Range} {now : ℕ} {t : Bool}
+    (h : now < length s) (x : Passed rs s at (r ∷ left) now) (e : t ≡ holds r (getD s now 0)) where
+  pub pass : not t ≡ false → Passed rs s at left (now + 1)
+  pass f = record { same = x .same ∙ asked r left s now h ∙ rw (← e, not-false t f) }
 
-  pub fail : {i : ℕ} → i ≤ length s → false ≡ holds r (getD s now 0) → Judged rs s at i 0
-  fail k e = record { inside = omega arith; same = x .same ∙ asked r left s now h ∙ rw (sym e) }
+  pub fail : {i : ℕ} → i ≤ length s → not t ≡ true → Judged rs s at i 0
+  fail k f = record { inside = omega arith; same = x .same ∙ asked r left s now h ∙ rw (← e, not-true t f) }
 
 either-way : (t : Bool) → pick t false false ≡ false
 either-way true = refl
@@ -51,7 +52,8 @@ cut-off {rs} {s} {at} h k = record { inside = omega arith; same = too-few rs (dr
 
 -- ---- an octet that begins a character
 
-begins : {rs : List Range} (s : List ℕ) (i : ℕ) → i < length s → Row (getD s i 0) (some rs) → goesOn [] (drop i s) ≡ goesOn rs (drop (i + 1) s)
+begins : {rs : List Range} (s : List ℕ) (i : ℕ) → i < length s → Row (getD s i 0) (some rs)
+    → goesOn [] (drop i s) ≡ goesOn rs (drop (i + 1) s)
 unfolding goesOn
 begins s i h r = rw (add-one, drop-cons s i 0, row-after r, goesOn)
 
@@ -68,7 +70,8 @@ module _ {s : List ℕ} {i : ℕ} (h : i < length s) where
 
 -- ---- whole characters
 
-pub whole : {rs : List Range} {s : List ℕ} {at i n : ℕ} → 0 < n → i + n ≤ length s → Passed rs s at [] (i + n) → Judged rs s at i n
+pub whole : {rs : List Range} {s : List ℕ} {at i n : ℕ}
+    → 0 < n → i + n ≤ length s → Passed rs s at [] (i + n) → Judged rs s at i n
 whole {n = n} h k x = record { inside = k; same = x .same ∙ rw (ne-eqb n 0 (omega arith)) }
 
 module _ {rs : List Range} {s : List ℕ} {at now : ℕ} (x : Passed rs s at [] now) where

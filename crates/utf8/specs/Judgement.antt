@@ -34,8 +34,8 @@ after a =
     (pick (holds (from 0xF1 0xF3) a) (some (tail ∷ tail ∷ tail ∷ []))
     (pick (holds (from 0xF4 0xF4) a) (some (from 0x80 0x8F ∷ tail ∷ tail ∷ [])) none))))))))
 
--- Whether octets, the first of which are to lie in the ranges of a character that has begun, end that character and go on
--- with whole characters to their end.
+-- Whether octets, the first of which are to lie in the ranges of a character that has begun, end that character and go
+-- on with whole characters to their end.
 unfoldable pub goesOn : List Range → List ℕ → Bool
 goesOn [] [] = true
 goesOn [] (a ∷ s) = elim (after a) [ none ↦ false | some rs ↦ goesOn rs s ]

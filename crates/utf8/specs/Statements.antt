@@ -1,5 +1,5 @@
--- The laws of UTF-8, each in words and then as a statement. What proves each stands in proofs/ under the statement's name
--- in small letters: `utf8-sound : Utf8Sound`.
+-- The laws of UTF-8, each in words and then as a statement. What proves each stands in proofs/ under the statement's
+-- name in small letters: `utf8-sound : Utf8Sound`.
 use Prim.Native.Nat.{ℕ}
 use mathlib.Core.Path.{_≡_}
 use mathlib.Core.Bool.{true}

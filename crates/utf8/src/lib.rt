@@ -57,8 +57,8 @@ fn ascii_blocks(s: &[u8], i: usize) -> usize
     end
 }
 
-// Whether the 16 bytes from i on are ASCII. It looks at all of them whatever they are, so that the processor can look at
-// them at once.
+// Whether the 16 bytes from i on are ASCII. It looks at all of them whatever they are, so that the processor can do so
+// at once.
 fn ascii_block(s: &[u8], i: usize) -> bool
     requires { ⌜ i + 16 ≤ length (now s) ⌝ }
     ensures { λ r. ⌜ (r ≡ true → Passed [] (now (s .entry)) i [] (i + 16)) ⌝ }
@@ -78,7 +78,7 @@ fn greater(a: u8, b: u8) -> u8
     if a < b { b } else { a }
 }
 
-// The number of octets of the character at i, or 0 where none stands there.
+// The number of octets of the character at i, or 0 where none stands there, by the rows of RFC 3629, section 4.
 fn longer(s: &[u8], i: usize) -> usize
     requires { ⌜ (i < length (now s)) × (0x80 ≤ getD (now s) i 0) ⌝ }
     ensures { λ r. ⌜ Judged [] (now (s .entry)) i i r ⌝ }

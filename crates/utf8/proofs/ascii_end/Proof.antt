@@ -1,5 +1,5 @@
--- `utf8::ascii_end` meets its contract: what stands from i to the end so far is ASCII, and the byte at i is, so the end is
--- behind it. Assumes nothing.
+-- `utf8::ascii_end` meets its contract: what stands from i to the end so far is ASCII, and the byte at i is, so the end
+-- is behind it. Assumes nothing.
 use Prim.Native.Nat.{ℕ, _-_, _≤_, _<_}
 use mathlib.Core.Path.{_≡_}
 use mathlib.Core.List.{List, []}
@@ -7,7 +7,6 @@ use native.Mathlib.Omega.{arith}
 use borrow.Author.Needs.{needs}
 use lib.ListN.{length, getD}
 use Rattle.utf8.specs.Steps.{Passed}
-use Rattle.utf8.proofs.Bounds.{upTo}
 use Rattle.utf8.proofs.Turns.{ascii}
 use Rattle.utf8.proofs.ascii_end.Statement.{statement}
 use Rattle.utf8.proofs.ascii_end.Tie as tie
@@ -27,15 +26,15 @@ loop-holds c = search needs
 shared-slice-read-if1 : tie.Need-shared-slice-read-if1 Inv-loop μ-loop
 shared-slice-read-if1 c = search needs
 
-not-there : (s : List ℕ) (i j m : ℕ) → i ≤ j → getD s i 0 < m → m ≤ getD s j 0 → i < j
-not-there s i j m h k l =
-    upTo i j (λ n.
-    let e : j ≡ i = omega arith in
-    absurd (omega (arith, rw e at l))
-    ) λ n. n
+other-place : (s : List ℕ) (i j : ℕ) → i ≤ j → getD s i 0 < getD s j 0 → i < j
+other-place s i j h k =
+    let apart : i ≡ j → ⊥ = λ e. omega (arith, rw e at k) in
+    omega arith
 
 returns : tie.Need-returns Inv-loop μ-loop
-returns c = search (not-there, needs)
+returns c =
+    let d = c .before .before .before in
+    (other-place (d .before .before .before .args .s .now) _ _ (omega arith) (omega arith), omega arith, d .loop .inv .2)
 
 add-end : tie.Need-add-end Inv-loop μ-loop
 add-end c = search needs

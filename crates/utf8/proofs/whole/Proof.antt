@@ -1,12 +1,11 @@
--- `utf8::whole` meets its contract: octet by octet, those before i + k lie in their ranges, and n - k tails are left to be
--- looked for. Assumes nothing.
+-- `utf8::whole` meets its contract: the octets before i + k lie in their ranges, and n - k tails are left to be looked
+-- for. Assumes nothing.
 use Prim.Native.Nat.{ℕ, suc, _+_, _-_, _≤_, _<_}
-use mathlib.Core.Path.{_≡_, sym, _∙_, subst}
+use mathlib.Core.Path.{_≡_}
 use mathlib.Core.List.{List, [], _∷_}
 use native.Mathlib.Omega.{arith}
 use borrow.Author.Needs.{needs}
-use borrow.Author.Tests.{not-true, not-false}
-use lib.ListN.{length, replicate, length-replicate}
+use lib.ListN.{replicate, length-replicate}
 use Rattle.utf8.specs.Judgement.{Range, tail}
 use Rattle.utf8.specs.Steps.{Passed, following}
 use Rattle.utf8.proofs.Turns.{begin, moved, pass, fail, cut-off, whole}
@@ -48,10 +47,10 @@ within-requires : tie.Need-within-requires Inv-loop μ-loop
 within-requires c κs = search needs
 
 returns-2 : tie.Need-returns-2 Inv-loop μ-loop
-returns-2 c = fail (omega arith) begin (omega arith) (sym (not-true _ (c .if2 .taken)) ∙ c .before .within .ensures)
+returns-2 c = fail (omega arith) begin (c .before .within .ensures) (omega arith) (c .if2 .taken)
 
 loop-holds : tie.Need-loop-holds Inv-loop μ-loop
-loop-holds c = (omega arith, omega arith, moved (pass (omega arith) begin (sym (not-false _ (c .if2 .left)) ∙ c .before .within .ensures)) (omega arith))
+loop-holds c = (omega arith, omega arith, moved (pass (omega arith) begin (c .before .within .ensures) (c .if2 .left)) (omega arith))
 
 add-within-2 : tie.Need-add-within-2 Inv-loop μ-loop
 add-within-2 c = search needs
@@ -63,7 +62,10 @@ within-requires-2 : tie.Need-within-requires-2 Inv-loop μ-loop
 within-requires-2 c κs = search needs
 
 returns-3 : tie.Need-returns-3 Inv-loop μ-loop
-returns-3 c = fail (omega arith) (one-asked (c .before .before .before .loop-test .taken) (c .before .before .before .before .loop .inv .2)) (omega arith) (sym (not-true _ (c .if3 .taken)) ∙ c .before .within2 .ensures)
+returns-3 c =
+    let d = c .before .before .before in
+    let x = one-asked (d .loop-test .taken) (d .before .loop .inv .2) in
+    fail (omega arith) x (c .before .within2 .ensures) (omega arith) (c .if3 .taken)
 
 add-k : tie.Need-add-k Inv-loop μ-loop
 add-k c = search needs
@@ -72,7 +74,10 @@ loop-less : tie.Need-loop-less Inv-loop μ-loop
 loop-less c = search needs
 
 loop-again : tie.Need-loop-again Inv-loop μ-loop
-loop-again c = (omega arith, omega arith, moved (pass (omega arith) (one-asked (c .before .before .before .loop-test .taken) (c .before .before .before .before .loop .inv .2)) (sym (not-false _ (c .if3 .left)) ∙ c .before .within2 .ensures)) (omega arith))
+loop-again c =
+    let d = c .before .before .before in
+    let x = one-asked (d .loop-test .taken) (d .before .loop .inv .2) in
+    (omega arith, omega arith, moved (pass (omega arith) x (c .before .within2 .ensures) (c .if3 .left)) (omega arith))
 
 returns-4 : tie.Need-returns-4 Inv-loop μ-loop
 returns-4 c = whole (omega arith) (omega arith) (moved (none-asked (c .loop-test .left) (c .before .loop .inv .2)) (omega arith))

@@ -1,5 +1,5 @@
--- `utf8::within` meets its contract: an octet below the least is in no range from it on, and of any other the most decides.
--- Assumes nothing.
+-- `utf8::within` meets its contract: an octet below the least is in no range from it on, and for any other the most
+-- decides. Assumes nothing.
 use mathlib.Core.Path.{sym}
 use borrow.Author.Tests.{le-leb}
 use Rattle.utf8.specs.Judgement.{from}
