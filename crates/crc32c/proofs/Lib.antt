@@ -1,5 +1,6 @@
 pub mod Division
 pub mod Entries
+pub mod Examples
 pub mod Folds
 pub mod Halves
 pub mod Injective

@@ -1,4 +1,5 @@
 pub mod Crc
+pub mod Examples
 pub mod Table
 pub mod Folding
 pub mod Promises

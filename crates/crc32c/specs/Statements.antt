@@ -1,12 +1,13 @@
--- The laws of the checksum, each in words and then as a statement over the reflected polynomial p. What proves each stands
--- in proofs/ under the statement's name in small letters: `checksum-joined : ChecksumJoined`.
+-- The laws of the checksum, each in words and then as a statement over the reflected polynomial p. What proves each
+-- stands in proofs/ under the statement's name in small letters: `checksum-joined : ChecksumJoined`.
 use Prim.Native.Nat.{ℕ, _*_, _/_, _%_, _^_, _<_, _≤_}
 use mathlib.Core.Path.{_≡_}
-use mathlib.Core.List.{List, _++_}
+use mathlib.Core.List.{List, _++_, map}
 use lib.Bits.{bitXor}
 use lib.ListN.{length}
 use Rattle.primitives.specs.Bytes.{Bytes}
-use Rattle.crc32c.specs.Crc.{bitStep, steps, over, checksum, continued, castagnoli, reflect, generator, Reflected, added, numberOf}
+use Rattle.crc32c.specs.Crc.{bitStep, steps, over, checksum, continued, castagnoli, crc32c, reflect, generator, Reflected, added, numberOf}
+use Rattle.crc32c.specs.Examples.{Example, examples}
 
 -- ---- why it is a division
 
@@ -20,6 +21,10 @@ CastagnoliReflects = castagnoli ≡ reflect 32 0x1EDC6F41
 
 abbrev pub CastagnoliReflected : Type 0
 CastagnoliReflected = Reflected castagnoli
+
+-- The published checksums are those of the definition.
+abbrev pub ExamplesHold : Type 0
+ExamplesHold = map (λ (e : Example). crc32c (e .bytes)) examples ≡ map (λ (e : Example). e .sum) examples
 
 -- ---- a checksum of joined parts
 
