@@ -8,7 +8,7 @@ ghost use Rattle.crc32c.specs.Promises.{Crc32cPromise, UpdatePromise};
 const ONES: u32 = 0xFFFF_FFFF;
 
 // From this length on it pays to fold.
-const LONG: usize = 400;
+const LONG: usize = 300;
 
 // The checksum of all of `s`.
 pub fn crc32c(s: &[u8]) -> u32
