@@ -1,5 +1,5 @@
--- Laws of the division's steps, over the polynomial. A step is linear, so n steps are, and each law splits a register into
--- what the steps turn into the polynomial and what they only move. Assumes nothing.
+-- Laws of the division's steps, over the polynomial. A step is linear, so n steps are, and each law splits a register
+-- into what the steps turn into the polynomial and what they only move. Assumes nothing.
 use Prim.Native.Nat.{ℕ, zero, suc, _+_, _*_, _/_, _%_, _^_, _<_}
 use native.Mathlib.Nat.{zero-lt-suc, mul-mod-left, mul-div-cancel, mul-one, one-mul, zero-mul, pow-suc, mul-assoc, zero-add, suc-add, div-eq-of-lt}
 use native.Mathlib.Omega.{arith}

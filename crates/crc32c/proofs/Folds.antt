@@ -1,6 +1,6 @@
--- What is left stays the same: while bytes are taken off the front, at the start, where a register is a window of its own,
--- and at the end, where the window is added byte by byte. By the six-term multiple and the laws of bytes as one number.
--- Assumes nothing.
+-- What is left stays the same: while bytes are taken off the front, at the start, where a register is a window of its
+-- own, and at the end, where the window is added byte by byte. By the six-term multiple and the laws of bytes as one
+-- number. Assumes nothing.
 use Prim.Native.Nat.{ℕ, suc, _+_, _-_, _*_, _/_, _%_, _^_, _≤_, _<_}
 use native.Mathlib.Nat.{add-zero, zero-add, div-one, div-eq-of-lt, lt-of-lt-of-le, sub-zero}
 use native.Mathlib.Omega.{arith}

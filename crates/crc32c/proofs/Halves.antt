@@ -1,5 +1,5 @@
--- A register in parts: the steps of the whole are the steps of each part alone, fewer for the parts that stand higher. So
--- bytes are divided by their halves, words by their bytes, and eight bytes by two words. Assumes nothing.
+-- A register in parts: the steps of the whole are the steps of each part alone, fewer for the parts that stand higher.
+-- So bytes are divided by their halves, words by their bytes, and eight bytes by two words. Assumes nothing.
 use Prim.Native.Nat.{ℕ, suc, _+_, _-_, _*_, _/_, _%_, _^_, _≤_, _<_}
 use native.Mathlib.Nat.{mod-lt, mul-mod-left, zero-lt-suc}
 use native.Mathlib.Numerals.{add-one}

@@ -1,5 +1,6 @@
--- What the two loops that fold keep. While bytes are taken off and stored behind the window, what is left is what it was;
--- so it is when the window is moved to the start, and at the end the register is that of the whole list. Assumes nothing.
+-- What the two loops that fold keep. While bytes are taken off and stored behind the window, what is left is what it
+-- was; so it is when the window is moved to the start, and at the end the register is that of the whole list. Assumes
+-- nothing.
 use Prim.Native.Nat.{ℕ, zero, suc, _+_, _^_, _≤_, _<_}
 use native.Mathlib.Nat.{add-zero, le-antisymm}
 use native.Mathlib.Omega.{arith}

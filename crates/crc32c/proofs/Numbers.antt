@@ -1,5 +1,5 @@
--- Bytes as one number: what its parts are, and that a list is divided as one number. By induction on how many bytes there
--- are. Assumes nothing.
+-- Bytes as one number: what its parts are, and that a list is divided as one number. By induction on how many bytes
+-- there are. Assumes nothing.
 use Prim.Native.Nat.{ℕ, zero, suc, _+_, _*_, _/_, _%_, _^_, _≤_, _<_}
 use native.Mathlib.Nat.{mul-one, mul-assoc, zero-add, suc-add, add-suc, add-zero, div-one, zero-mul, lt-of-lt-of-le}
 use native.Mathlib.Omega.{arith}

@@ -1,5 +1,5 @@
--- What stores one after the other keep: each place that has been passed holds what belongs there, and the others what they
--- held, since a store changes one place. So a window is copied, and a register is put into zeros. Assumes nothing.
+-- What stores one after the other keep: each place that has been passed holds what belongs there, and the others what
+-- they held, since a store changes one place. So a window is copied, and a register is put into zeros. Assumes nothing.
 use Prim.Native.Nat.{ℕ, zero, suc, _+_, _*_, _/_, _%_, _^_, _≤_, _<_}
 use native.Mathlib.Nat.{zero-add, mod-lt, mod-one, mod-eq-of-lt, div-one}
 use native.Mathlib.Decide.{decLt}

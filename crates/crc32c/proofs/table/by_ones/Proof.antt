@@ -1,4 +1,5 @@
--- `crc32c::table::by_ones` meets its contract: what is left of the bytes takes the register to where all of them take it. Assumes nothing.
+-- `crc32c::table::by_ones` meets its contract: what is left of the bytes takes the register to where all of them take
+-- it. Assumes nothing.
 use Prim.Native.Nat.{_-_, _≤_}
 use native.Mathlib.Omega.{arith}
 use mathlib.Core.Path.{_≡_, refl}

@@ -1,4 +1,5 @@
--- `crc32c::table::byte` meets its contract: each half byte is looked up in the row of its number of steps. Assumes nothing.
+-- `crc32c::table::byte` meets its contract: each half byte is looked up in the row of its number of steps. Assumes
+-- nothing.
 use Prim.Native.Nat.{_+_, _*_, _/_, _%_}
 use native.Mathlib.Omega.{arith}
 use mathlib.Core.Path.{_≡_, ap₂, _∙_}

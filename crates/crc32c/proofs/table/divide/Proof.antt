@@ -1,4 +1,5 @@
--- `crc32c::table::divide` meets its contract: the table is right at each of its entries, which is computed. Assumes nothing.
+-- `crc32c::table::divide` meets its contract: the table is right at each of its entries, which is computed. Assumes
+-- nothing.
 use mathlib.Core.Path.{refl}
 use borrow.Author.Needs.{needs}
 use Rattle.crc32c.specs.Crc.{bitStep, steps}

@@ -1,4 +1,5 @@
--- `crc32c::table::one` meets its contract: the byte is added to the lowest of the register, and the others move down. Assumes nothing.
+-- `crc32c::table::one` meets its contract: the byte is added to the lowest of the register, and the others move down.
+-- Assumes nothing.
 use borrow.Author.Needs.{needs}
 use Rattle.crc32c.proofs.Division.{byte-split}
 use Rattle.crc32c.proofs.table.one.Statement.{statement}
