@@ -1,13 +1,13 @@
 pub mod Division
-pub mod Entries
+mod Entries
 pub mod Examples
-pub mod Folds
-pub mod Halves
+mod Folds
+mod Halves
 pub mod Injective
 pub mod Joined
-pub mod Kept
-pub mod Multiple
+mod Kept
+mod Multiple
 pub mod Numbers
 pub mod Single
-pub mod Stored
+mod Stored
 pub mod Xor

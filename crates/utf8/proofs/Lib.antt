@@ -1,7 +1,7 @@
-pub mod Bounds
-pub mod Rows
-pub mod Characters
-pub mod Sequences
+mod Bounds
+mod Characters
 pub mod Numbers
+mod Rows
+pub mod Sequences
 pub mod Single
-pub mod Turns
+mod Turns
