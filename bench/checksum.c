@@ -1,5 +1,5 @@
 // How fast crc32c is beside a plain table loop. Of each size the best of several rounds counts, in which the two take
-// turns. Fails where they do not agree.
+// turns. Fails where they do not agree. 296 and 304 lie on both sides of the length from which crc32c folds.
 #define _POSIX_C_SOURCE 199309L
 #include <inttypes.h>
 #include <stddef.h>
@@ -77,7 +77,7 @@ static double larger(double a, double b)
 
 int main(void)
 {
-    static const size_t sizes[] = {16, 64, 256, 1024, 65536, LONGEST};
+    static const size_t sizes[] = {16, 64, 256, 296, 304, 1024, 65536, LONGEST};
     uint8_t *bytes = malloc(LONGEST);
     if (bytes == NULL) {
         fputs("no memory\n", stderr);

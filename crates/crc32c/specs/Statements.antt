@@ -28,6 +28,7 @@ ExamplesHold = map (λ (e : Example). crc32c (e .bytes)) examples ≡ map (λ (e
 
 -- ---- a checksum of joined parts
 
+-- The register after two parts is the second's, from the register that the first leaves.
 abbrev pub OverJoined : Type 0
 OverJoined = (p c : ℕ) (a b : List ℕ) → over p c (a ++ b) ≡ over p (over p c a) b
 
@@ -43,9 +44,11 @@ ContinuedFromZero = (p : ℕ) (s : List ℕ) → continued p 0 s ≡ checksum p 
 
 -- ---- linear over exclusive or
 
+-- The steps of a sum are the sum of the steps.
 abbrev pub StepsLinear : Type 0
 StepsLinear = (p n a b : ℕ) → steps p n (bitXor a b) ≡ bitXor (steps p n a) (steps p n b)
 
+-- The same of lists of bytes of one length, added byte by byte.
 abbrev pub OverLinear : Type 0
 OverLinear =
     (p c d : ℕ) (s t : List ℕ) → length s ≡ length t → over p (bitXor c d) (added s t) ≡ bitXor (over p c s) (over p d t)
@@ -62,6 +65,7 @@ OverNumber = (p c : ℕ) (s : List ℕ) → over p c s ≡ steps p (8 * length s
 
 -- ---- 32 bits stay 32 bits, and nothing is lost
 
+-- Bytes leave a register of 32 bits in 32 bits, and so the checksum fits them.
 abbrev pub OverHeld : Type 0
 OverHeld = (p c : ℕ) (s : List ℕ) → Reflected p → c < 2 ^ 32 → Bytes s → over p c s < 2 ^ 32
 
@@ -76,7 +80,7 @@ abbrev pub OverInjective : Type 0
 OverInjective =
     (p c d : ℕ) (s : List ℕ) → Reflected p → c < 2 ^ 32 → d < 2 ^ 32 → Bytes s → over p c s ≡ over p d s → c ≡ d
 
--- Up to four bytes that leave the same register, from the same register, are the same bytes.
+-- As many bytes as others, at most four, that leave the same register from the same register are the same bytes.
 abbrev pub FourInjective : Type 0
 FourInjective =
     (p c : ℕ) (x y : List ℕ) → Reflected p → c < 2 ^ 32 → Bytes x → Bytes y → length x ≡ length y → length x ≤ 4
