@@ -3,8 +3,10 @@ pub mod Fields
 pub mod Integers
 pub mod Lengths
 pub mod Mask
+pub mod Moves
 pub mod Numbers
 pub mod Places
+pub mod Shifted
 pub mod Shortest
 pub mod Signs
 pub mod Single
@@ -13,5 +15,6 @@ pub mod Starred
 pub mod Steps
 pub mod Turns
 pub mod Varints
+pub mod Windows
 pub mod Written
 pub mod Zigzag

@@ -58,7 +58,7 @@ fewest-groups (suc k) c =
           }
     ]
 
-groups-length : (m c : ℕ) → length (groups m c) ≡ suc m
+pub groups-length : (m c : ℕ) → length (groups m c) ≡ suc m
 unfolding groups
 groups-length zero c = refl
 groups-length (suc m) c = ap suc (groups-length m (c / 128))

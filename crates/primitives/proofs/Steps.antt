@@ -1,10 +1,10 @@
 -- What a step came from, and how a counted loop turns: by cases on the step and on the count. Assumes nothing.
 use Prim.Native.Nat.{ℕ, zero, suc, _-_, _<_}
-use mathlib.Core.Path.{_≡_, refl, sym, ap, _∙_}
+use mathlib.Core.Path.{_≡_, refl, sym, ap, _∙_, subst}
 use mathlib.Core.Bool.{Bool, true, false}
-use mathlib.Core.List.{List, [], _∷_}
+use mathlib.Core.List.{List, [], _∷_, _++_}
 use native.Mathlib.Omega.{arith}
-use lib.ListN.{length}
+use lib.ListN.{length, take}
 use Rattle.primitives.specs.Pick.{pick}
 use Rattle.primitives.specs.Step.{Step, ok, no, andThen, mapStep, times}
 
@@ -47,6 +47,54 @@ pub map-id : {P A : Type 0} (x : Step P A) → mapStep (λ a. a) x ≡ x
 map-id (ok a p) = refl
 map-id (no n) = refl
 
+-- ---- things one after the other
+
+module _ {P A : Type 0} (f : P → Step P A) where
+  -- one more is the first and then the others
+  pub times-first : (k : ℕ) (p : P) {xs : List A} {q : P} → times f (suc k) p ≡ ok xs q
+      → (a : A) × (m : P) × (rest : List A) × (f p ≡ ok a m) × (times f k m ≡ ok rest q) × (a ∷ rest ≡ xs)
+  unfolding times
+  times-first k p e =
+      let (a, m, is, e′) = and-then-ok (f p) (λ a m. mapStep (λ rest. a ∷ rest) (times f k m)) e in
+      let (rest, others, w) = map-ok (λ rest. a ∷ rest) (times f k m) e′ in
+      (a, m, rest, is, others, w)
+
+  pub times-onto : (k : ℕ) (p : P) {a : A} {m : P} {rest : List A} {q : P} → f p ≡ ok a m → times f k m ≡ ok rest q
+      → times f (suc k) p ≡ ok (a ∷ rest) q
+  unfolding times
+  times-onto k p is others = rw (is, others)
+
+-- what holds of none, and of one more in front of others, holds of all
+module _ {P A : Type 0} (f : P → Step P A) (Holds : P → List A → P → Type 0) (none-left : (p : P) → Holds p [] p)
+    (one-more : (p : P) (a : A) (m : P) (rest : List A) (q : P) → f p ≡ ok a m → Holds m rest q → Holds p (a ∷ rest) q) where
+  pub times-each : (k : ℕ) (p : P) {xs : List A} {q : P} → times f k p ≡ ok xs q → Holds p xs q
+  unfolding times
+  times-each zero p {xs} {q} e =
+      let v : [] ≡ xs = cc in
+      let w : p ≡ q = cc in
+      rw (← v, ← w) (none-left p)
+  times-each (suc k) p {q = q} e =
+      let (a, m, rest, was, others, w) = times-first f k p e in
+      subst (λ xs. Holds p xs q) w (one-more p a m rest q was (times-each k m others))
+
+-- the n-th of them is read from the place to which the n before it lead
+module _ {P A : Type 0} (f : P → Step P A) where
+  abbrev pub Nth : ℕ → P → List A → Type 0
+  Nth n p xs =
+      (at : P) × (a : A) × (next : P) × (after : List A)
+      × (times f n p ≡ ok (take n xs) at) × (f at ≡ ok a next) × (xs ≡ take n xs ++ (a ∷ after))
+
+  pub times-nth : (k : ℕ) (p : P) {xs : List A} {q : P} (n : ℕ) → times f k p ≡ ok xs q → n < k → Nth n p xs
+  unfolding times
+  times-nth zero p n e h = absurd (omega arith)
+  times-nth (suc k) p zero e h =
+      let (a, next, rest, is, _, w) = times-first f k p e in
+      subst (Nth zero p) w (p, a, next, rest, refl, is, refl)
+  times-nth (suc k) p (suc n) e h =
+      let (b, m, rest, is, others, w) = times-first f k p e in
+      let (at, a, next, after, before, reads, split) = times-nth k m n others (omega arith) in
+      subst (Nth (suc n) p) w (at, a, next, after, times-onto f n p is before, reads, ap (λ (l : List A). b ∷ l) split)
+
 -- ---- a counted loop; g puts what is still to come onto what the loop has
 
 module _ {P A : Type 0} (f : P → Step P A) where
@@ -70,6 +118,5 @@ module _ {P A : Type 0} (f : P → Step P A) where
   unfolding times
   times-count zero at {xs} e = let w : [] ≡ xs = cc in ap length (sym w)
   times-count (suc k) at e =
-      let (a, p, _, e′) = and-then-ok (f at) (λ a p. mapStep (λ rest. a ∷ rest) (times f k p)) e in
-      let (rest, is, w) = map-ok (λ rest. a ∷ rest) (times f k p) e′ in
-      ap length (sym w) ∙ ap suc (times-count k p is)
+      let (_, p, _, _, others, w) = times-first f k at e in
+      ap length (sym w) ∙ ap suc (times-count k p others)

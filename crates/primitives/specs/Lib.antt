@@ -5,6 +5,7 @@ pub mod Step
 pub mod Stands
 pub mod Format
 pub mod Reading
+pub mod Shifted
 pub mod Answers
 pub mod Promises
 pub mod Starred

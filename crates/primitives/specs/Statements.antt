@@ -12,6 +12,7 @@ use Rattle.primitives.specs.Step.{ok}
 use Rattle.primitives.specs.Stands.{Stands, Encoding}
 use Rattle.primitives.specs.Format.{InBits, Unsigned, Integer, zigzag, shortest, Varies, Nullable}
 use Rattle.primitives.specs.Reading.{unsignedAt, integerAt, unzigzag, varintAt, Span, spanAt, shown}
+use Rattle.primitives.specs.Shifted.{movedNullable, same, Shifted}
 use Rattle.primitives.specs.Starred.{StarredVarint, starredVarints, readings, expected, rewritten}
 
 -- ---- integers, over the number of bytes
@@ -100,6 +101,19 @@ abbrev pub SpanComplete : Type 0
 SpanComplete =
     (nullable strict : Bool) (s : List ℕ) (p q : ℕ) (bs : List ℕ) (v : Option (List ℕ)) → Stands s p q bs → Nullable nullable strict bs v
     → (spanAt nullable s p ≡ ok (endingAt q v) q) × (shown s (endingAt q v) ≡ v)
+
+-- ---- something in front
+
+-- A list with something in front moves starts and places, and nothing else: integers, numbers of varying length, and bytes
+-- that follow their length.
+abbrev pub IntegerShifted : Type 0
+IntegerShifted = (n : ℕ) → Shifted same (integerAt n)
+
+abbrev pub VarintShifted : Type 0
+VarintShifted = (w : ℕ) → Shifted same (varintAt w)
+
+abbrev pub SpanShifted : Type 0
+SpanShifted = (nullable : Bool) → Shifted movedNullable (spanAt nullable)
 
 -- ---- document 01's starred rows of numbers
 

@@ -91,7 +91,7 @@ pub enum VarlongRead {
 
 // A length, or the null that -1 means where null is allowed.
 pub enum LengthRead {
-    Length(usize, Cursor),
+    Length(u32, Cursor),
     Null(Cursor),
     Refused(Fault),
 }
@@ -292,7 +292,7 @@ impl Cursor {
             VarintRead::Got(n, next) => {
                 let n = n.0;
                 if 0 <= n {
-                    return LengthRead::Length(n as usize, next);
+                    return LengthRead::Length(n as u32, next);
                 }
                 if nullable {
                     if n == -1 {
@@ -311,6 +311,7 @@ impl Cursor {
     {
         match self.read_length(s, nullable) {
             LengthRead::Length(len, next) => {
+                let len = len as usize;
                 let start = next.at;
                 if s.len() < len {
                     return SpanRead::Refused(Fault::PastEnd);

@@ -173,7 +173,7 @@ fn uint64(s: &[u8], at: usize) -> Outcome {
 
 fn length(s: &[u8], at: usize, nullable: bool) -> Outcome {
     match (Cursor { at }).read_length(s, nullable) {
-        LengthRead::Length(n, next) => value(place(n), next),
+        LengthRead::Length(n, next) => value(place(n as usize), next),
         LengthRead::Null(next) => value(Integer::from_i64(-1), next),
         LengthRead::Refused(f) => refused(f),
     }

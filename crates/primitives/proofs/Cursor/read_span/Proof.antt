@@ -10,6 +10,9 @@ read-length-requires c κs = search needs
 enum-known-len : tie.Need-enum-known-len
 enum-known-len c = search needs
 
+cast-len : tie.Need-cast-len
+cast-len c = search needs
+
 returns : tie.Need-returns
 returns c = search span-longer
 
@@ -19,8 +22,8 @@ sub-if2 c = search needs
 returns-2 : tie.Need-returns-2
 returns-2 c = search span-past
 
-add-t11 : tie.Need-add-t11
-add-t11 c = search needs
+add-t12 : tie.Need-add-t12
+add-t12 c = search needs
 
 enum-known-next : tie.Need-enum-known-next
 enum-known-next c = search needs
@@ -43,10 +46,11 @@ read-span-spec =
     (tie.spec
     read-length-requires
     enum-known-len
+    cast-len
     returns
     sub-if2
     returns-2
-    add-t11
+    add-t12
     enum-known-next
     enum-known-f
     returns-3

@@ -1,0 +1,10 @@
+pub mod Format
+pub mod Written
+pub mod Judgement
+pub mod Rows
+pub mod Placed
+pub mod Answers
+pub mod Promises
+pub mod Starred
+pub mod Statements
+pub mod Walk

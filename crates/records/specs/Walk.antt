@@ -1,0 +1,116 @@
+-- Words of private contracts: none of them stands in a promise. What the steps of the walk give, and the tables as the
+-- walk fills them, row after row.
+use Prim.Native.Nat.{ℕ, _+_, _*_}
+use mathlib.Core.Option.{some}
+use mathlib.Core.List.{List, [], _∷_, _++_}
+use lib.Dec.{leb}
+use lib.IntN.{ℤ}
+use lib.ListN.{length, take, drop}
+use Rattle.primitives.specs.Pick.{pick}
+use Rattle.primitives.specs.Step.{Step, ok, no}
+use Rattle.primitives.specs.Reading.{Span}
+use Rattle.primitives.specs.Answers.{numberOf}
+use Rattle.records.specs.declared.Place.{Place}
+use Rattle.records.specs.declared.CountRead.{CountRead}
+use Rattle.records.specs.declared.PlaceRead.{PlaceRead}
+use Rattle.records.specs.declared.KeyRead.{KeyRead}
+use Rattle.records.specs.declared.RecordHeaderRead.{RecordHeaderRead}
+use Rattle.records.specs.declared.DeltasRead.{DeltasRead}
+use Rattle.records.specs.declared.RecordRead.{RecordRead}
+use Rattle.records.specs.declared.Filled.{Filled}
+use Rattle.records.specs.declared.Passed.{Passed}
+use Rattle.records.specs.Judgement.{HeaderSpans, RecordSpans, Deltas, Head}
+use Rattle.records.specs.Rows.{spanRow, headerRow, recordRow, headersIn, Tables}
+use Rattle.records.specs.Answers.{recordNumberOf}
+
+-- ---- the steps of the walk
+
+abbrev pub viewCount : CountRead → Step ℕ ℕ
+viewCount (CountRead.Got n c) = ok n (c .at)
+viewCount (CountRead.Refused f) = no (numberOf f)
+
+-- two numbers of a row
+abbrev pub placeRow : Place → List ℤ
+placeRow x = x .start ∷ x .len ∷ []
+
+abbrev pub bytesRow : Span → List ℤ
+bytesRow x = spanRow (some x)
+
+abbrev pub viewKey : KeyRead → Step ℕ (List ℤ)
+viewKey (KeyRead.Got x c) = ok (placeRow x) (c .at)
+viewKey (KeyRead.Refused f) = no (recordNumberOf f)
+
+abbrev pub viewPlace : PlaceRead → Step ℕ (List ℤ)
+viewPlace (PlaceRead.Got x c) = ok (placeRow x) (c .at)
+viewPlace (PlaceRead.Refused f) = no (numberOf f)
+
+-- the four numbers of a header's row
+abbrev pub viewHeader : RecordHeaderRead → Step ℕ (List ℤ)
+viewHeader (RecordHeaderRead.Got h c) = ok (placeRow (h .key) ++ placeRow (h .value)) (c .at)
+viewHeader (RecordHeaderRead.Refused f) = no (recordNumberOf f)
+
+abbrev pub viewDeltas : DeltasRead → Step ℕ Deltas
+viewDeltas (DeltasRead.Got d c) = ok (record { timestamp = d .timestamp; offset = d .offset }) (c .at)
+viewDeltas (DeltasRead.Refused f) = no (numberOf f)
+
+-- the first six numbers of a record's row, and how many headers it has
+pub record Heading : Type 0 where
+  pub numbers : List ℤ
+  pub count : ℕ
+
+abbrev pub headingOf : Head → Heading
+headingOf h =
+    record {
+      numbers = h .deltas .timestamp ∷ h .deltas .offset ∷ (spanRow (h .key) ++ spanRow (h .value));
+      count = h .count;
+    }
+
+abbrev pub viewRecord : RecordRead → Step ℕ Heading
+viewRecord (RecordRead.Got r c) =
+    ok (record {
+      numbers = r .deltas .timestamp ∷ r .deltas .offset ∷ (placeRow (r .key) ++ placeRow (r .value));
+      count = r .headers;
+    }) (c .at)
+viewRecord (RecordRead.Refused f) = no (numberOf f)
+
+-- ---- tables
+
+-- the table with a row of w numbers in that row's place, or as it was where it has no such row
+unfoldable pub put : ℕ → List ℤ → ℕ → List ℤ → List ℤ
+put w t row numbers =
+    pick (leb (row * w + w) (length t)) (take (row * w) t ++ (numbers ++ drop (row * w + w) t)) t
+
+unfoldable pub putHeaders : List ℤ → ℕ → List HeaderSpans → List ℤ
+putHeaders t row [] = t
+putHeaders t row (h ∷ rest) = putHeaders (put 4 t row (headerRow h)) (row + 1) rest
+
+abbrev pub tables : List ℤ → List ℤ → Tables
+tables rs hs = record { records = rs; headers = hs }
+
+abbrev pub putRecord : Tables → ℕ → ℕ → RecordSpans → Tables
+putRecord t row first r =
+    tables (put 8 (t .records) row (recordRow first r)) (putHeaders (t .headers) first (r .headers))
+
+unfoldable pub putRecords : Tables → ℕ → ℕ → List RecordSpans → Tables
+putRecords t row first [] = t
+putRecords t row first (r ∷ rest) = putRecords (putRecord t row first r) (row + 1) (first + length (r .headers)) rest
+
+abbrev pub viewFilled : Filled → List ℤ → Step ℕ (List ℤ)
+viewFilled (Filled.To c) t = ok t (c .at)
+viewFilled (Filled.Refused f) t = no (recordNumberOf f)
+
+-- ---- the walk: how many headers were passed, and what the tables hold
+
+pub record Walked : Type 0 where
+  pub headers : ℕ
+  pub tables : Tables
+
+abbrev pub walkedRecord : Tables → ℕ → ℕ → RecordSpans → Walked
+walkedRecord t row first r = record { headers = length (r .headers); tables = putRecord t row first r }
+
+abbrev pub walkedRecords : Tables → ℕ → ℕ → List RecordSpans → Walked
+walkedRecords t row first rs = record { headers = headersIn rs; tables = putRecords t row first rs }
+
+abbrev pub viewWalk : Passed → Tables → Step ℕ Walked
+viewWalk (Passed.Headers n c) t = ok (record { headers = n; tables = t }) (c .at)
+viewWalk (Passed.Refused f) t = no (recordNumberOf f)
