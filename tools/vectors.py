@@ -3,10 +3,11 @@
 
 Every expectation is worked out here, by Python's arithmetic, from the sentences and tables of document 01, from RFC
 3720's polynomial and from RFC 3629's rows. Nothing of the code under test is used."""
+from itertools import islice
 
 ABOUT = """\
 # Cases for crates/vectors, written by tools/vectors.py. The expectations come from the sentences and tables of
-# document 01, "Fixed fields" and "Numbers of varying length", by Python's arithmetic, and not from the code under test.
+# document 01, from "Fixed fields" to "Reader's numbers", by Python's arithmetic, and not from the code under test.
 # Those of checksums are RFC 3720's examples, section B.4, and what a division by its polynomial leaves; those of UTF-8
 # come from the rows of RFC 3629, section 4, and Python's decoder agrees with each.
 #
@@ -22,6 +23,13 @@ ABOUT = """\
 #                                each byte, which is x / 256
 # utf8 HEX VERDICT               the bytes HEX, with 0 to 17 ASCII bytes before them and 0 to 17 after them, are UTF-8
 #                                (1) or not (0)
+# records HEX COUNT FIRST R H NUMBER [RECORDS HEADERS END[|ROWS|ROWS]]
+#                                reading COUNT records at the start of the bytes HEX, with header rows from row FIRST
+#                                on, into tables of R and of H numbers answers NUMBER. Where that is 0 or 14 (no room),
+#                                RECORDS and HEADERS say how many there are, and END is the place after them. Where it
+#                                is 0, the numbers of all record rows follow, and those of all header rows; all other
+#                                numbers of both tables stay as they are. The check without tables answers the same,
+#                                and 0 in place of 14. records@K reads at place K
 #
 # HEX is capital digits, two to a byte, or - for no bytes."""
 
@@ -36,6 +44,13 @@ ROWS = [
 ROW_VARLONG = ("FFFFFFFFFFFFFFFFFF01", -9223372036854775808)
 ROW_READ_ONLY = ("8000", 0)
 ROWS_REFUSED = ["FFFFFFFF10", "8080808080"]
+# Document 01, "A record, in reading order": the bytes of a record and its row; and "Reader's numbers", both sides: one
+# that names length 100, whose six bytes of fields end the bytes.
+RECORD_ROWS = [
+    ("0C000000010100", (0, 0, 0, -1, 0, -1, 0, 0)),
+    ("0E00000001024100", (0, 0, 0, -1, 6, 1, 0, 0)),
+]
+RECORD_NAMES_100 = "C801000000010100"
 
 # A kind of integer: how many bytes, and whether it is signed.
 INTEGERS = {
@@ -91,8 +106,31 @@ FAULTS = [
 ]
 ASCII_AROUND = 17
 
-PAST_END, BEYOND_LIMITS, NEGATIVE_LENGTH = 8, 9, 10
+ACCEPTED, PAST_END, BEYOND_LIMITS, NEGATIVE_LENGTH, NOT_UTF8, BYTES_LEFT, NO_ROOM = 0, 8, 9, 10, 11, 13, 14
 GREATEST_PLACE = 2 ** 64 - 1
+GREATEST_LENGTH = 2 ** 31 - 1
+
+# A record with a key, a value and one header, part by part.
+PARTS = {
+    "attributes": "00", "timestamp": "8001", "offset": "02",
+    "key_length": "04", "key": "A0A1", "value_length": "02", "value": "B0",
+    "count": "02", "header_key_length": "04", "header_key": "C3A9", "header_value_length": "02", "header_value": "FF",
+}
+LENGTHS = {"key_length": -1, "value_length": -1, "count": 0, "header_key_length": 0, "header_value_length": 0}
+NULL, EMPTY = "01", "00"
+# How many numbers tables have where room is of no concern: three rows each, and a remainder.
+ROOM = (30, 15)
+# What the program puts into both tables beforehand: these numbers, one more from place to place.
+RECORD_MARKS, HEADER_MARKS = (range(first, first + 64) for first in (1000000, 2000000))
+GOOD_KEYS = [
+    "41", "7F", "C280", "C3A9", "DFBF", "E0A080", "E282AC", "ED9FBF", "EE8080", "F0908080", "F48FBFBF",
+    "41C3A9E282ACF09F9880",
+]
+BAD_KEYS = [
+    # surrogates; overlong; above 10FFFF; cut short; a tail alone; an octet of no character
+    "EDA080", "EDBFBF", "C080", "C1BF", "E09FBF", "F08FBFBF", "F4908080", "F5808080", "C3", "41E282", "F09F98",
+    "80", "BF", "41C3A9A9", "FF",
+]
 
 
 def zigzag(n):
@@ -375,6 +413,297 @@ def utf8_faults(text):
                 utf8(text, letters[:place] + b"\x80" + letters[place + 1:], False)
 
 
+class Refused(Exception):
+    """Document 01's number."""
+
+
+def octet(stream):
+    """The next byte, behind its place."""
+    for place, byte in stream:
+        return place, byte
+    raise Refused(PAST_END)
+
+
+def number(stream, width):
+    """A number of varying length, and the place after it."""
+    octets, most = [], most_bytes(width)
+    while not octets or octets[-1] >= 128:
+        place, byte = octet(stream)
+        octets.append(byte)
+        if len(octets) == most and byte >= 2 ** (width - 7 * (most - 1)):
+            raise Refused(BEYOND_LIMITS)
+    code = sum(byte % 128 * 128 ** i for i, byte in enumerate(octets))
+    return next(n for n in (code // 2, -(code + 1) // 2) if zigzag(n) == code), place + 1
+
+
+def length(stream, least):
+    n, after = number(stream, 32)
+    if n < least:
+        raise Refused(NEGATIVE_LENGTH)
+    return n, after
+
+
+def span(stream, least):
+    """Start and length, null being 0 and -1; and the bytes."""
+    n, start = length(stream, least)
+    if n < 0:
+        return (0, n), b""
+    return (start, n), bytes(octet(stream)[1] for _ in range(n))
+
+
+def header(stream):
+    key, spelled = span(stream, 0)
+    if not by_rows(spelled):
+        raise Refused(NOT_UTF8)
+    value, _ = span(stream, 0)
+    return key + value
+
+
+def record(stream):
+    """The first six numbers of a row, and the rows of the headers. The fields take their bytes from those named and
+    from the stream at once, and so end with the shorter. Afterwards none of those named may be left."""
+    n, _ = length(stream, 0)
+    named = iter(range(n))
+    fields = (pair for _, pair in zip(named, stream))
+    octet(fields)
+    timestamp, _ = number(fields, 64)
+    offset, _ = number(fields, 32)
+    key, _ = span(fields, -1)
+    value, _ = span(fields, -1)
+    count, _ = length(fields, 0)
+    headers = [header(fields) for _ in range(count)]
+    for _ in named:
+        raise Refused(BYTES_LEFT)
+    return (timestamp, offset) + key + value, headers
+
+
+def record_tables(data, at, count, first):
+    """Record rows and header rows of all the bytes from a place on."""
+    if at > len(data):
+        raise Refused(PAST_END)
+    stream = islice(enumerate(data), at, None)
+    rows, header_rows = [], []
+    for _ in range(count):
+        row, headers = record(stream)
+        rows.append(row + (first + len(header_rows), len(headers)))
+        header_rows += headers
+    for _ in stream:
+        raise Refused(BYTES_LEFT)
+    return rows, header_rows
+
+
+def records(text, expected, data, count=1, at=0, first=0, room=ROOM):
+    """A case whose number is expected by whoever puts it here."""
+    found, told = ACCEPTED, ()
+    try:
+        tables = record_tables(data, at, count, first)
+        needed = [len(rows) + skipped for rows, skipped in zip(tables, (0, first))]
+        if any(rows > numbers // width for rows, numbers, width in zip(needed, room, (8, 4))):
+            found = NO_ROOM
+        told = (len(tables[0]), len(tables[1]), len(data))
+    except Refused as refused:
+        found, = refused.args
+    assert found == expected, (data.hex(), found, expected)
+    words = ["records@%d" % at if at else "records", data, count, first, *room, found, *told]
+    if found == ACCEPTED:
+        for rows, marks in zip(tables, (RECORD_MARKS, HEADER_MARKS)):
+            numbers = [n for row in rows for n in row]
+            assert not any(n in marks for n in numbers)
+            words[-1] = "%s|%s" % (words[-1], " ".join(map(str, numbers)))
+    text.case(*words)
+
+
+def record_of(named=None, upto=None, **others):
+    """A record by its parts, with others in place of some. It names its length, or another, and may be cut behind a
+    part."""
+    parts = {name: bytes.fromhex(others.get(name, digits)) for name, digits in PARTS.items()}
+    body = b"".join(parts.values())
+    if upto:
+        names = list(parts)
+        parts = {name: parts[name] for name in names[:names.index(upto) + 1]}
+    return varying(len(body) if named is None else named) + b"".join(parts.values())
+
+
+def pair(key, value=b""):
+    return varying(len(key)) + key + varying(len(value)) + value
+
+
+def with_headers(*headers, count=None):
+    """A record of nulls with these headers."""
+    body = bytes.fromhex("0000000101") + varying(len(headers) if count is None else count) + b"".join(headers)
+    return varying(len(body)) + body
+
+
+def records_examples(text):
+    text.heading("records, examples")
+    for digits, row in RECORD_ROWS:
+        data = bytes.fromhex(digits)
+        assert record_tables(data, 0, 1, 0) == ([row], [])
+        records(text, ACCEPTED, data)
+    data = bytes.fromhex(RECORD_NAMES_100)
+    records(text, BYTES_LEFT, data)
+    records(text, PAST_END, data[:-1])
+    records(text, PAST_END, data[:-1] + varying(1))
+    for key in (NULL, EMPTY):
+        for value in (NULL, EMPTY):
+            records(text, ACCEPTED, record_of(key_length=key, key="", value_length=value, value=""))
+    for attributes in ("01", "FF"):
+        records(text, ACCEPTED, record_of(attributes=attributes))
+
+
+def records_cut(text):
+    """Fields that do not end before the bytes or the record do, and bytes that are left."""
+    text.heading("records, cut")
+    data = record_of()
+    size = len(data) - 1
+    records(text, ACCEPTED, data)
+    for end in range(len(data)):
+        records(text, PAST_END, data[:end])
+    for named in range(size):
+        records(text, PAST_END, record_of(named))
+    for named in (size + 1, 100, GREATEST_LENGTH):
+        records(text, BYTES_LEFT, record_of(named))
+    for more in (b"\0", data):
+        records(text, BYTES_LEFT, data + more)
+        records(text, BYTES_LEFT, record_of(size + len(more)) + more)
+    records(text, BYTES_LEFT, record_of(count="00"))
+    # what a record leaves is met before the next record's fault, and the end that it names before a number's limits
+    records(text, BYTES_LEFT, record_of(size + 1) + b"\0\xff", count=2)
+    records(text, PAST_END, record_of(7, offset=ROWS_REFUSED[0]))
+    records(text, BEYOND_LIMITS, record_of(8, offset=ROWS_REFUSED[0]))
+
+
+def records_lengths(text):
+    """Lengths that are negative, or more than there is. The fault is met before what follows is looked at."""
+    text.heading("records, lengths")
+    records(text, PAST_END, varying(0))
+    records(text, NEGATIVE_LENGTH, record_of(-1))
+    for n in (-1, -2, -2 ** 31):
+        records(text, NEGATIVE_LENGTH, varying(n))
+    for part, least in LENGTHS.items():
+        records(text, NEGATIVE_LENGTH, record_of(**{part: varying(least - 1).hex()}))
+        for n in (least - 1, -2 ** 31):
+            records(text, NEGATIVE_LENGTH, record_of(upto=part, **{part: varying(n).hex()}))
+        records(text, PAST_END, record_of(**{part: varying(GREATEST_LENGTH).hex()}))
+
+
+def records_numbers(text):
+    """Numbers beyond their limits, longer than needed, least and greatest."""
+    text.heading("records, numbers")
+    for beyond in ROWS_REFUSED:
+        records(text, BEYOND_LIMITS, bytes.fromhex(beyond))
+        for part in ("offset", *LENGTHS):
+            records(text, BEYOND_LIMITS, record_of(upto=part, **{part: beyond}))
+    for beyond in ("FF" * 9 + "02", "80" * 10):
+        records(text, BEYOND_LIMITS, record_of(timestamp=beyond))
+
+    def longer(part, count):
+        n, _ = number(enumerate(bytes.fromhex(PARTS[part])), 32)
+        return {part: varying(n, count).hex()}
+
+    body = record_of()[1:]
+    records(text, ACCEPTED, varying(len(body), 2) + body)
+    records(text, ACCEPTED, record_of(**longer("timestamp", 3)))
+    longest = {"timestamp": varying(64, 10).hex()}
+    for part in ("offset", *LENGTHS):
+        records(text, ACCEPTED, record_of(**longer(part, 2)))
+        longest.update(longer(part, 5))
+    records(text, ACCEPTED, record_of(**longest))
+    records(text, ACCEPTED, record_of(key_length="8100", key="", value_length="8180808000", value=""))
+    for timestamp, offset in ((-2 ** 63, 2 ** 31 - 1), (2 ** 63 - 1, -2 ** 31)):
+        records(text, ACCEPTED, record_of(timestamp=varying(timestamp).hex(), offset=varying(offset).hex()))
+
+
+def records_headers(text):
+    """Keys, and the order of faults: a later one stands in each case too."""
+    text.heading("records, headers")
+    for key in map(bytes.fromhex, GOOD_KEYS):
+        records(text, ACCEPTED, with_headers(pair(key, b"\x80")))
+    records(text, ACCEPTED, with_headers(pair(b""), pair(b"", b"\xff")))
+    for key in map(bytes.fromhex, BAD_KEYS):
+        records(text, NOT_UTF8, with_headers(pair(key)))
+    bad, good, negative, past = b"\xff", b"\xc3\xa9", varying(-1), varying(9)
+    for faults, expected in (
+        (negative + bad + negative, NEGATIVE_LENGTH),
+        (past + bad + negative, PAST_END),
+        (varying(1) + bad + negative, NOT_UTF8),
+        (varying(1) + bad + past, NOT_UTF8),
+        (varying(1) + bad, NOT_UTF8),
+        (varying(1) + good + b"\0", NOT_UTF8),
+        (varying(2) + good + negative + pair(bad), NEGATIVE_LENGTH),
+        (varying(2) + good + past + pair(bad), PAST_END),
+        (pair(good) + varying(1) + bad, NOT_UTF8),
+        (pair(good), PAST_END),
+    ):
+        records(text, expected, with_headers(faults, count=2))
+    records(text, NOT_UTF8, with_headers(pair(bad)) + b"\0")
+    records(text, BYTES_LEFT, with_headers(pair(bad), count=0))
+
+
+def three_records():
+    """With no header, two, and one."""
+    others = dict(timestamp="03", key_length="02", key="A0", value_length="00", value="")
+    return [bytes.fromhex(RECORD_ROWS[1][0]), with_headers(pair(b"a"), pair(b"", b"b")), record_of(**others)]
+
+
+def records_several(text):
+    text.heading("records, several")
+    parts = three_records()
+    data = b"".join(parts)
+    for first, numbers in ((0, 15), (1, 19), (13, 64)):
+        records(text, ACCEPTED, data, count=3, first=first, room=(30, numbers))
+    records(text, ACCEPTED, b"".join(reversed(parts)), count=3)
+    for count in (0, 1, 2):
+        records(text, BYTES_LEFT, data, count=count)
+    for count in (4, 2 ** 61, GREATEST_PLACE):
+        records(text, PAST_END, data, count=count)
+    records(text, ACCEPTED, data, count=2, at=len(parts[0]))
+    records(text, ACCEPTED, data, count=1, at=len(parts[0] + parts[1]))
+    records(text, ACCEPTED, b"\xff" * 3 + data, count=3, at=3)
+    for count, at, expected in (
+        (0, 0, BYTES_LEFT), (0, 1, BYTES_LEFT), (0, 2, ACCEPTED), (0, 3, PAST_END), (0, GREATEST_PLACE, PAST_END),
+        (1, 2, PAST_END), (1, 3, PAST_END), (1, GREATEST_PLACE, PAST_END),
+    ):
+        records(text, expected, b"\xff\xff", count=count, at=at)
+    records(text, ACCEPTED, b"", count=0)
+    records(text, PAST_END, b"", count=GREATEST_PLACE)
+
+
+def records_room(text):
+    """Rows enough and one fewer, with a remainder; first header rows near and far; and faults, whatever the room."""
+    text.heading("records, room")
+    one = with_headers(pair(b"a", b"b"))
+    for more in range(8):
+        records(text, ACCEPTED, one, room=(8 + more, 4 + more % 4))
+    for room in ((7, 8), (8, 7), (7, 7), (0, 8), (8, 0), (0, 0)):
+        records(text, NO_ROOM, with_headers(pair(b""), pair(b"")), room=room)
+    three = b"".join(three_records())
+    records(text, ACCEPTED, three, count=3, room=(24, 12))
+    for room in ((23, 12), (24, 11), (23, 11)):
+        records(text, NO_ROOM, three, count=3, room=room)
+    for first, numbers in ((1, 12), (1, 15), (2, 16)):
+        records(text, NO_ROOM, three, count=3, first=first, room=(24, numbers))
+    none = bytes.fromhex(RECORD_ROWS[0][0])
+    for data, count, enough in ((none, 1, 8), (b"", 0, 0)):
+        for first, numbers, expected in (
+            (0, 0, ACCEPTED), (1, 0, NO_ROOM), (1, 3, NO_ROOM), (3, 12, ACCEPTED), (4, 12, NO_ROOM), (4, 15, NO_ROOM),
+        ):
+            records(text, expected, data, count=count, first=first, room=(enough, numbers))
+        records(text, NO_ROOM, data, count=count, first=GREATEST_PLACE)
+    for first in (2 ** 62, GREATEST_PLACE):
+        records(text, NO_ROOM, one, first=first)
+    records(text, NO_ROOM, three, count=3, first=2 ** 64 - 3)
+    two = b"".join(three_records()[:2])
+    for fault, expected in (
+        (three[:-1], PAST_END), (two + bytes.fromhex(ROWS_REFUSED[0]), BEYOND_LIMITS),
+        (two + varying(-1), NEGATIVE_LENGTH), (two + with_headers(pair(b"\xff")), NOT_UTF8),
+        (three + b"\0", BYTES_LEFT),
+    ):
+        for room in ((0, 0), (24, 12)):
+            records(text, expected, fault, count=3, room=room)
+    records(text, BYTES_LEFT, three + b"\0", count=3, first=GREATEST_PLACE)
+
+
 def main():
     text = Text()
     document_rows(text)
@@ -389,6 +718,13 @@ def main():
     checksum_lengths(text)
     utf8_rows(text)
     utf8_faults(text)
+    records_examples(text)
+    records_cut(text)
+    records_lengths(text)
+    records_numbers(text)
+    records_headers(text)
+    records_several(text)
+    records_room(text)
     print("\n".join(text.lines))
 
 

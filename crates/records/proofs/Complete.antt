@@ -14,6 +14,7 @@ use Rattle.primitives.specs.Step.{Step, ok, times}
 use Rattle.primitives.specs.Stands.{Stands}
 use Rattle.primitives.specs.Format.{Varies, Sized, Nullable}
 use Rattle.primitives.specs.Reading.{lengthAt, spanAt}
+use Rattle.primitives.proofs.Steps.{ok-not-no}
 use Rattle.primitives.proofs.Places.{first, second}
 use Rattle.primitives.proofs.Integers.{integer-complete}
 use Rattle.primitives.proofs.Varints.{varint-complete}
@@ -24,7 +25,7 @@ use Rattle.utf8.proofs.Sequences.{utf8-complete}
 use Rattle.records.specs.Format.{Header, Record, Run, HeaderBytes, Fields, RecordBytes}
 use Rattle.records.specs.Judgement.{countAt, bytesAt, keyAt, headerAt, deltasAt, Head, headAt, fieldsAt, recordAt, runAt, recordsAt}
 use Rattle.records.specs.Placed.{placedBytes, placedNullable, placedHeader, placedRun, keyPlace, valuePlace, headersPlace, placedFields, placedRecord}
-use Rattle.records.specs.Statements.{HeaderComplete, RecordComplete, RunComplete, RecordsComplete}
+use Rattle.records.specs.Statements.{HeaderComplete, RecordComplete, RunComplete, RecordsComplete, RefusedIsNone}
 use Rattle.records.proofs.Parts.{starts, size-stands, sized-stands, key-stands, value-stands, fields-stand}
 use Rattle.records.proofs.Shows.{bytes-shows, header-shows, record-shows, records-shows}
 
@@ -137,3 +138,6 @@ unfolding recordsAt
 records-complete strict s p bs rs x g =
     let (reads, show) = run-complete strict s p (length s) bs rs x g in
     (rw (reads, le-ltb (length s) (length s) (omega arith), eq-eqb (length s) (length s) refl), show)
+
+pub refused-is-none : RefusedIsNone
+refused-is-none strict s p n bs rs e x g = ok-not-no (sym (records-complete strict s p bs rs x g .0) ∙ e)

@@ -27,15 +27,21 @@ _then_ e f = λ i. e i ∷ f i
 
 -- ---- whether there are rows enough
 
-pub rows-from : (first n rows : ℕ) → n ≤ rows → leb first (rows - n) ≡ leb (first + n) rows
-rows-from first n rows h =
-    elim (decLe (first + n) rows) [
-      | yes g ↦ le-leb first (rows - n) (omega arith) ∙ sym (le-leb (first + n) rows g)
-      | no g ↦ lt-leb first (rows - n) (omega arith) ∙ sym (lt-leb (first + n) rows (omega arith))
-    ]
+module _ (records headers first n m : ℕ) where
+  pub no-record-rows : records / 8 < n → false ≡ pick (leb n (records / 8)) (leb (first + m) (headers / 4)) false
+  no-record-rows h = rw (lt-leb n (records / 8) h)
 
-pub rows-short : (first n rows : ℕ) → rows < n → false ≡ leb (first + n) rows
-rows-short first n rows h = sym (lt-leb (first + n) rows (omega arith))
+  module _ (h : n ≤ records / 8) where
+    pub no-header-rows : headers / 4 < m → false ≡ pick (leb n (records / 8)) (leb (first + m) (headers / 4)) false
+    no-header-rows g = rw (le-leb n (records / 8) h, lt-leb (first + m) (headers / 4) (omega arith))
+
+    pub rows-from : m ≤ headers / 4 → leb first (headers / 4 - m) ≡ pick (leb n (records / 8)) (leb (first + m) (headers / 4)) false
+    rows-from g =
+        rw (le-leb n (records / 8) h)
+        (elim (decLe (first + m) (headers / 4)) [
+          | yes l ↦ le-leb first (headers / 4 - m) (omega arith) ∙ sym (le-leb (first + m) (headers / 4) l)
+          | no l ↦ lt-leb first (headers / 4 - m) (omega arith) ∙ sym (lt-leb (first + m) (headers / 4) (omega arith))
+        ])
 
 -- ---- a row
 

@@ -1,11 +1,10 @@
 -- What the check and the reading of records return: the walk's answer, held to the end of the bytes, and then the tables'
 -- room. The premises have the form in which a proof finds them. Assumes nothing.
 use Prim.Native.Nat.{ℕ, _+_, _/_, _≤_, _<_}
-use mathlib.Core.Path.{_≡_, sym, ap, _∙_}
+use mathlib.Core.Path.{_≡_, refl, sym, ap, _∙_}
 use mathlib.Core.Bool.{Bool, true, false, not}
 use mathlib.Core.List.{List}
 use native.Mathlib.Omega.{arith}
-use native.Mathlib.Nat.{zero-add}
 use borrow.Author.Tests.{leb-true, not-true, not-false}
 use lib.Dec.{leb}
 use lib.ListN.{length}
@@ -18,10 +17,10 @@ use Rattle.records.specs.declared.RecordsCheck.{RecordsCheck}
 use Rattle.records.specs.declared.RecordsRead.{RecordsRead}
 use Rattle.records.specs.declared.Passed.{Passed}
 use Rattle.records.specs.Judgement.{RecordSpans, recordAt, runAt, recordsAt}
-use Rattle.records.specs.Rows.{Tables, roomy, withRows}
+use Rattle.records.specs.Rows.{Tables, roomy, withRows, tables}
 use Rattle.records.specs.Answers.{accepted, noRoom, recordNumberOf, Counts, countsOf, viewCheck}
 use Rattle.records.specs.Promises.{ReadRecordsPromise}
-use Rattle.records.specs.Walk.{tables, Walked, walkedRecords, viewWalk}
+use Rattle.records.specs.Walk.{Walked, walkedRecords, viewWalk}
 use Rattle.records.proofs.Ends.{left-is, past-is, all-is, refused-is, records-run}
 use Rattle.records.proofs.Tables.{records-filled}
 
@@ -63,8 +62,16 @@ unfolding roomy
 roomy-is first rs t e =
     λ i. pick (leb (e i .records) (length (t .records) / 8)) (leb (first + e i .headers) (length (t .headers) / 4)) false
 
-pub first-fits : (first m rows : ℕ) (b : Bool) → b ≡ leb (first + m) rows → not b ≡ false → first ≤ rows
-first-fits first m rows b e h = omega (arith, leb-true (first + m) rows (sym e ∙ not-false b h))
+pub first-fits : (n m first records headers : ℕ) (b : Bool) → b ≡ pick (leb n (records / 8)) (leb (first + m) (headers / 4)) false
+    → not b ≡ false → first ≤ headers / 4
+first-fits n m first records headers b e h =
+    let both = pick-true (leb n (records / 8)) (leb (first + m) (headers / 4)) (sym e ∙ not-false b h) in
+    omega (arith, leb-true (first + m) (headers / 4) both)
+  where
+    pick-true : (x y : Bool) → pick x y false ≡ true → y ≡ true
+    pick-true true y f = f
+    pick-true false true f = refl
+    pick-true false false f = f
 
 module _ (s : List ℕ) (at count first : ℕ) (t : Tables) where
   due-no-room : {rs : List RecordSpans} {q n m : ℕ} → recordsAt s count at ≡ ok rs q → countsOf rs ≡ record { records = n; headers = m }
@@ -82,28 +89,20 @@ module _ (s : List ℕ) (at count first : ℕ) (t : Tables) where
         let r = map-no countsOf (recordsAt s count at) (sym e ∙ ap viewCheck g) in
         record { answer = rw r; tables = rw r }
 
-    module _ (n m q : ℕ) (f : a ≡ RecordsCheck.Accepted n m q) (b : Bool) (g : b ≡ leb (0 + n) (length (t .records) / 8)) where
+    module _ (n m q : ℕ) (f : a ≡ RecordsCheck.Accepted n m q) (b : Bool)
+        (g : b ≡ pick (leb n (length (t .records) / 8)) (leb (first + m) (length (t .headers) / 4)) false) where
       judged : (rs : List RecordSpans) × (recordsAt s count at ≡ ok rs q) × (countsOf rs ≡ record { records = n; headers = m })
       judged = map-ok countsOf (recordsAt s count at) (sym e ∙ ap viewCheck f)
 
-      room-by : {x : Bool} → b ≡ x → roomy first (judged .0) t ≡ pick x (leb (first + m) (length (t .headers) / 4)) false
-      room-by h =
-          roomy-is first (judged .0) t (judged .2)
-          ∙ ap (λ (y : Bool). pick y (leb (first + m) (length (t .headers) / 4)) false) (ap (λ (k : ℕ). leb k (length (t .records) / 8)) (sym (zero-add n)) ∙ sym g ∙ h)
+      room-is : roomy first (judged .0) t ≡ b
+      room-is = roomy-is first (judged .0) t (judged .2) ∙ sym g
 
-      pub read-no-records : not b ≡ true → ReadRecordsPromise s at count first t (record { result = RecordsRead.NoRoom n m; tables = t })
-      read-no-records h = due-no-room (judged .1) (judged .2) (room-by (not-true b h))
+      pub read-no-room : not b ≡ true → ReadRecordsPromise s at count first t (record { result = RecordsRead.NoRoom n m; tables = t })
+      read-no-room h = due-no-room (judged .1) (judged .2) (room-is ∙ not-true b h)
 
-      module _ (h : not b ≡ false) (b′ : Bool) (g′ : b′ ≡ leb (first + m) (length (t .headers) / 4)) where
-        room-is : {x : Bool} → b′ ≡ x → roomy first (judged .0) t ≡ x
-        room-is i = room-by (not-false b h) ∙ sym g′ ∙ i
-
-        pub read-no-headers : not b′ ≡ true → ReadRecordsPromise s at count first t (record { result = RecordsRead.NoRoom n m; tables = t })
-        read-no-headers i = due-no-room (judged .1) (judged .2) (room-is (not-true b′ i))
-
-        pub read-got : not b′ ≡ false → (w : Passed) (t′ : Tables) → viewWalk w t′ ≡ mapStep (walkedRecords t 0 first) (runAt s count at)
-            → ReadRecordsPromise s at count first t (record { result = RecordsRead.Accepted n m q; tables = t′ })
-        read-got i w t′ x =
-            let room = room-is (not-false b′ i) in
-            let walked = walked-tables w t′ (x ∙ ap (mapStep (walkedRecords t 0 first)) (records-run s count at (judged .1) .0)) in
-            due-accepted (judged .1) (judged .2) room (walked ∙ records-filled first (judged .0) t room)
+      pub read-got : not b ≡ false → (w : Passed) (t′ : Tables) → viewWalk w t′ ≡ mapStep (walkedRecords t 0 first) (runAt s count at)
+          → ReadRecordsPromise s at count first t (record { result = RecordsRead.Accepted n m q; tables = t′ })
+      read-got h w t′ x =
+          let room = room-is ∙ not-false b h in
+          let walked = walked-tables w t′ (x ∙ ap (mapStep (walkedRecords t 0 first)) (records-run s count at (judged .1) .0)) in
+          due-accepted (judged .1) (judged .2) room (walked ∙ records-filled first (judged .0) t room)

@@ -56,6 +56,9 @@ pub record Tables : Type 0 where
   pub records : List ℤ
   pub headers : List ℤ
 
+abbrev pub tables : List ℤ → List ℤ → Tables
+tables rs hs = record { records = rs; headers = hs }
+
 -- room is whole rows; header rows are filled from the first header row on
 unfoldable pub roomy : ℕ → List RecordSpans → Tables → Bool
 roomy first rs t =

@@ -6,7 +6,7 @@ use mathlib.Core.Bool.{Bool, true, false}
 use mathlib.Core.List.{List, [], _∷_, _++_, map}
 use lib.ListN.{length, take}
 use Rattle.primitives.specs.Bytes.{Bytes}
-use Rattle.primitives.specs.Step.{ok, times}
+use Rattle.primitives.specs.Step.{ok, no, times}
 use Rattle.primitives.specs.Stands.{Stands, Encoding}
 use Rattle.primitives.specs.Shifted.{movedSpan, movedNullable, movedStep}
 use Rattle.records.specs.Format.{Header, Record, Run, HeaderBytes, RecordBytes, RecordsBytes}
@@ -65,6 +65,12 @@ RecordsComplete =
     (strict : Bool) (s : List ℕ) (p : ℕ) (bs : List ℕ) (rs : List Record) → Stands s p (length s) bs → (g : RecordsBytes strict bs rs)
     → (recordsAt s (length rs) p ≡ ok (placedRecords p g) (length s)) × (shownRecords s (placedRecords p g) ≡ rs)
 
+-- What is refused is no encoding: of as many records none stands from the place up to the end of the bytes.
+abbrev pub RefusedIsNone : Type 0
+RefusedIsNone =
+    (strict : Bool) (s : List ℕ) (p n : ℕ) (bs : List ℕ) (rs : List Record) → recordsAt s (length rs) p ≡ no n → Stands s p (length s) bs
+    → RecordsBytes strict bs rs → ⊥
+
 -- ---- one meaning
 
 -- A record's encoding is no proper beginning of another, and two records do not share one.
@@ -84,7 +90,7 @@ abbrev pub RunsEqual : Type 0
 RunsEqual =
     (strict strict′ : Bool) (bs : List ℕ) (m n : List Record) → RecordsBytes strict bs m → RecordsBytes strict′ bs n → m ≡ n
 
--- By the strict grammar a record has one encoding, and so has a run of records.
+-- By the strict grammar a record has at most one encoding, and so has a run of records.
 abbrev pub RecordWritten : Type 0
 RecordWritten = (bs : List ℕ) (r : Record) → RecordBytes true bs r → bs ≡ writtenRecord r
 
@@ -130,12 +136,15 @@ FirstRowsRunOn =
     → recordRows first (before ++ (r ∷ after))
     ≡ recordRows first before ++ (recordRow (first + headersIn before) r ∷ recordRows (first + headersIn before + length (r .headers)) after)
 
--- Record n is what the n-th step reads: from the place to which the n records before it lead.
+-- Record n is what the n-th step reads, from the place to which the n records before it lead, and row n is its row.
 abbrev pub RecordsNth : Type 0
 RecordsNth =
-    (s : List ℕ) (count p : ℕ) (rs : List RecordSpans) (q n : ℕ) → runAt s count p ≡ ok rs q → n < count
+    (s : List ℕ) (count p : ℕ) (rs : List RecordSpans) (q n first : ℕ) → runAt s count p ≡ ok rs q → n < count
     → (at : ℕ) × (r : RecordSpans) × (next : ℕ) × (after : List RecordSpans)
     × (runAt s n p ≡ ok (take n rs) at) × (recordAt s at ≡ ok r next) × (rs ≡ take n rs ++ (r ∷ after))
+    × (recordRows first rs
+    ≡ recordRows first (take n rs)
+    ++ (recordRow (first + headersIn (take n rs)) r ∷ recordRows (first + headersIn (take n rs) + length (r .headers)) after))
 
 -- The same of the headers of a record.
 abbrev pub HeadersNth : Type 0

@@ -20,7 +20,7 @@ use Rattle.records.specs.declared.RecordRead.{RecordRead}
 use Rattle.records.specs.declared.Filled.{Filled}
 use Rattle.records.specs.declared.Passed.{Passed}
 use Rattle.records.specs.Judgement.{HeaderSpans, RecordSpans, Deltas, Head}
-use Rattle.records.specs.Rows.{spanRow, headerRow, recordRow, headersIn, Tables}
+use Rattle.records.specs.Rows.{spanRow, headerRow, recordRow, headersIn, Tables, tables}
 use Rattle.records.specs.Answers.{recordNumberOf}
 
 -- ---- the steps of the walk
@@ -83,9 +83,6 @@ put w t row numbers =
 unfoldable pub putHeaders : List ℤ → ℕ → List HeaderSpans → List ℤ
 putHeaders t row [] = t
 putHeaders t row (h ∷ rest) = putHeaders (put 4 t row (headerRow h)) (row + 1) rest
-
-abbrev pub tables : List ℤ → List ℤ → Tables
-tables rs hs = record { records = rs; headers = hs }
 
 abbrev pub putRecord : Tables → ℕ → ℕ → RecordSpans → Tables
 putRecord t row first r =

@@ -1,4 +1,4 @@
--- The one encoding of a record by the strict grammar: every number in its shortest bytes, attributes 0.
+-- The bytes of a record by the strict grammar: every number in its shortest bytes, attributes 0.
 use Prim.Native.Nat.{ℕ}
 use mathlib.Core.Option.{Option, none, some}
 use mathlib.Core.List.{List, [], _∷_, _++_}

@@ -8,16 +8,18 @@ use primitives::SpanRead;
 use primitives::VarintRead;
 use primitives::VarlongRead;
 use utf8::is_utf8;
-ghost use mathlib.Core.Path.{_≡_};
-ghost use mathlib.Core.List.{[], _∷_, _++_};
 ghost use Prim.Native.Nat.{_+_, _/_, _^_, _<_, min};
+ghost use mathlib.Core.Path.{_≡_};
+ghost use mathlib.Core.Bool.{false};
+ghost use mathlib.Core.List.{[], _∷_, _++_};
 ghost use lib.Dec.{leb};
 ghost use lib.IntN.{pos};
+ghost use Rattle.primitives.specs.Pick.{pick};
 ghost use Rattle.primitives.specs.Step.{mapStep, times};
 ghost use Rattle.primitives.specs.Reading.{spanAt};
 ghost use Rattle.records.specs.Judgement.{countAt, keyAt, headerAt, deltasAt, headAt, fieldsAt, recordAt, runAt};
-ghost use Rattle.records.specs.Rows.{spanRow, headerRow};
-ghost use Rattle.records.specs.Walk.{viewCount, viewKey, bytesRow, viewPlace, viewHeader, viewDeltas, viewRecord, placeRow, headingOf, put, putHeaders, tables, walkedRecord, walkedRecords, viewFilled, viewWalk};
+ghost use Rattle.records.specs.Rows.{spanRow, headerRow, tables};
+ghost use Rattle.records.specs.Walk.{viewCount, viewKey, bytesRow, viewPlace, viewHeader, viewDeltas, viewRecord, placeRow, headingOf, put, putHeaders, walkedRecord, walkedRecords, viewFilled, viewWalk};
 ghost use Rattle.records.specs.Promises.{RecordNumberPromise, CheckRecordsPromise, ReadRecordsPromise};
 
 // Why records are refused.
@@ -180,13 +182,7 @@ pub fn read_records(
             headers: m,
             end,
         } => {
-            if !has_rows(records.len() / Record::ROW, 0, n) {
-                return RecordsRead::NoRoom {
-                    records: n,
-                    headers: m,
-                };
-            }
-            if !has_rows(headers.len() / RecordHeader::ROW, first_header_row, m) {
+            if !has_room(records.len(), headers.len(), first_header_row, n, m) {
                 return RecordsRead::NoRoom {
                     records: n,
                     headers: m,
@@ -210,14 +206,18 @@ pub fn read_records(
     }
 }
 
-// Whether a table of `rows` rows has n of them from the row `first` on.
-fn has_rows(rows: usize, first: usize, n: usize) -> bool
-    ensures { λ r. ⌜ r ≡ leb (first + n) rows ⌝ }
+// Whether tables of these lengths have n rows for records, and m for headers from the row `first` on.
+fn has_room(records: usize, headers: usize, first: usize, n: usize, m: usize) -> bool
+    ensures { λ r. ⌜ r ≡ pick (leb n (records / 8)) (leb (first + m) (headers / 4)) false ⌝ }
 {
-    if rows < n {
+    if records / Record::ROW < n {
         return false;
     }
-    first <= rows - n
+    let rows = headers / RecordHeader::ROW;
+    if rows < m {
+        return false;
+    }
+    first <= rows - m
 }
 
 // The walk: passes `count` records, and puts their rows where the tables have such rows. With tables of no rows it is the

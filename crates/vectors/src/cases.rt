@@ -2,15 +2,16 @@
 use crate::characters;
 use crate::characters::AROUND;
 use crate::checksums;
-use crate::integer::Integer;
 use crate::reading;
 use crate::reading::Outcome;
+use crate::tables;
 use crate::text::Number;
 use crate::text::Spelled;
 use crate::text::before;
 use crate::text::decimal;
 use crate::text::hexadecimal;
 use crate::text::same;
+use crate::text::unsigned;
 use crate::text::word;
 use crate::text::words;
 use crate::writing;
@@ -112,33 +113,33 @@ fn judged(line: &[u8], space: &mut [u8]) -> bool {
     same(verdict, b"0") && characters::judges(space, count, false)
 }
 
-// KIND HEX NUMBER [..], where KIND may have @K after it
+// KIND HEX .., where KIND may have @K after it
 fn read(line: &[u8], first: &[u8], space: &mut [u8]) -> bool {
     let n = before(first, b'@');
-    let Number::Is(at) = place(&first[n..]) else {
+    let Spelled::Count(at) = place(&first[n..]) else {
         return false;
     };
     let Spelled::Count(count) = hexadecimal(word(line, 1), space) else {
         return false;
     };
-    if at.negative {
-        return false;
-    }
     if space.len() < count {
         return false;
     }
-    let at = at.distance;
-    reading::read(&first[..n], &space[..count], at as usize).same(expected(line))
+    if same(&first[..n], b"records") {
+        return tables::agree(&space[..count], at, line);
+    }
+    reading::read(&first[..n], &space[..count], at).same(expected(line))
 }
 
 // The suffix is empty or starts with @.
-fn place(suffix: &[u8]) -> Number {
+fn place(suffix: &[u8]) -> Spelled {
     if suffix.len() == 0 {
-        return Number::Is(Integer::from_u64(0));
+        return Spelled::Count(0);
     }
-    decimal(&suffix[1..])
+    unsigned(&suffix[1..])
 }
 
+// KIND HEX NUMBER [..]
 fn expected(line: &[u8]) -> Outcome {
     let n = words(line);
     if n == 3 {

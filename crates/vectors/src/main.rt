@@ -1,5 +1,6 @@
-// Runs the libraries `primitives`, `crc32c` and `utf8` on cases whose expectations come from elsewhere: those of the
-// text on standard input, and all strings of one byte and of two. It prints a line for each group of cases.
+// Runs the libraries `primitives`, `crc32c`, `utf8` and `records` on cases whose expectations come from elsewhere:
+// those of the text on standard input, and all strings of one byte and of two. It prints a line for each group of
+// cases.
 mod cases;
 mod characters;
 mod checksums;
@@ -7,6 +8,7 @@ mod groups;
 mod integer;
 mod reading;
 mod strings;
+mod tables;
 mod tally;
 mod text;
 mod writing;

@@ -1,8 +1,8 @@
 // All strings of one byte and of two, read at both widths. The expectations are a second formulation, from numbers to
 // bytes: it counts through the numbers, makes the bytes of each by document 01's sentence, and asks the reader for the
 // number back. "A signed n maps to 2n if n is not negative and to -2n - 1 otherwise; then seven bits a byte, lowest
-// first, the top bit set on all but the last." The other strings are those whose last byte has its top bit set: no whole
-// number stands there.
+// first, the top bit set on all but the last." The other strings are those whose last byte has its top bit set: no
+// whole number stands there.
 use crate::integer::Integer;
 use crate::reading;
 use crate::reading::Outcome;

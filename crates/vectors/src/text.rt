@@ -9,7 +9,7 @@ pub enum Number {
     Malformed,
 }
 
-// How many bytes a word spelled.
+// How many bytes a word spelled, or the number that it spells.
 pub enum Spelled {
     Count(usize),
     Malformed,
@@ -83,6 +83,17 @@ pub fn decimal(word: &[u8]) -> Number {
             Number::Is(Integer::below_zero(size - 1))
         }
         Number::Malformed => Number::Malformed,
+    }
+}
+
+// The same of digits alone.
+pub fn unsigned(word: &[u8]) -> Spelled {
+    match natural(word, 0) {
+        Number::Is(n) => {
+            let size = n.distance;
+            Spelled::Count(size as usize)
+        }
+        Number::Malformed => Spelled::Malformed,
     }
 }
 

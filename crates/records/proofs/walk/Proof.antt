@@ -1,7 +1,8 @@
 -- `records::walk` meets its contract. Assumes nothing.
 use borrow.Author.Needs.{needs}
 use Rattle.records.proofs.Turns.{walkOn, start}
-use Rattle.records.specs.Walk.{tables, walkedRecords}
+use Rattle.records.specs.Rows.{tables}
+use Rattle.records.specs.Walk.{walkedRecords}
 use Rattle.records.specs.Judgement.{runAt}
 use Rattle.primitives.specs.Step.{mapStep}
 use lib.ListN.{length}

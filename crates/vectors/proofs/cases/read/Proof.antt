@@ -54,6 +54,24 @@ same-length-2 c = search needs
 returns-3 : tie.Need-returns-3
 returns-3 c = search needs
 
+slice-aggregate-same : tie.Need-slice-aggregate-same
+slice-aggregate-same c = search needs
+
+slice-aggregate-same-2 : tie.Need-slice-aggregate-same-2
+slice-aggregate-same-2 c = search needs
+
+same-requires : tie.Need-same-requires
+same-requires c κs = search needs
+
+slice-reshare-prefix-agree : tie.Need-slice-reshare-prefix-agree
+slice-reshare-prefix-agree c = search needs
+
+slice-aggregate-agree : tie.Need-slice-aggregate-agree
+slice-aggregate-agree c = simp length-take (omega arith)
+
+agree-requires : tie.Need-agree-requires
+agree-requires c κs = search needs
+
 same-length-3 : tie.Need-same-length-3
 same-length-3 c = search needs
 
@@ -75,8 +93,8 @@ read-requires c κs = search needs
 expected-requires : tie.Need-expected-requires
 expected-requires c κs = search needs
 
-same-requires : tie.Need-same-requires
-same-requires c κs = search needs
+same-requires-2 : tie.Need-same-requires-2
+same-requires-2 c κs = search needs
 
 same-length-4 : tie.Need-same-length-4
 same-length-4 c = search needs
@@ -104,6 +122,12 @@ read-spec =
     returns-2
     same-length-2
     returns-3
+    slice-aggregate-same
+    slice-aggregate-same-2
+    same-requires
+    slice-reshare-prefix-agree
+    slice-aggregate-agree
+    agree-requires
     same-length-3
     returns-4
     slice-aggregate-read
@@ -111,6 +135,6 @@ read-spec =
     slice-aggregate-read-2
     read-requires
     expected-requires
-    same-requires
+    same-requires-2
     same-length-4
     returns-5)
