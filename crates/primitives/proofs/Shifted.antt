@@ -1,5 +1,5 @@
--- Something in front of the bytes moves the places at which the primitive layer reads, and nothing else: each byte, each
--- end and each test of a place is found that much further on. Assumes nothing.
+-- Something in front of the bytes moves the places at which the primitive layer reads, and nothing else: each byte,
+-- each end and each test of a place is found that much further on. Assumes nothing.
 use Prim.Native.Nat.{ℕ, zero, suc, _+_, compare, compare·suc-suc}
 use mathlib.Core.Path.{_≡_, refl, ap, _∙_}
 use mathlib.Core.Bool.{Bool, true, false}

@@ -1,6 +1,6 @@
 -- A window on a list: what stands in the list and ends within the window stands in the window, at the same place, since
--- both are cut at the same end; and what stands in the window stands in the list, since the rest comes after it. Assumes
--- nothing.
+-- both are cut at the same end; and what stands in the window stands in the list, since the rest comes after it.
+-- Assumes nothing.
 use Prim.Native.Nat.{ℕ, _+_, _-_, _≤_}
 use mathlib.Core.Path.{_≡_, subst}
 use mathlib.Core.List.{List, _++_, append-assoc}

@@ -24,8 +24,8 @@ abbrev pub movedStep : {A : Type 0} → (A → A) → ℕ → Step ℕ A → Ste
 movedStep move k (ok a p) = ok (move a) (k + p)
 movedStep move k (no n) = no n
 
--- A list with something in front, read that much further on, gives the same answer with its places moved, where `move` is
--- what becomes of the value.
+-- A list with something in front, read that much further on, gives the same answer with its places moved, where `move`
+-- is what becomes of the value.
 abbrev pub Shifted : {A : Type 0} → (ℕ → A → A) → (List ℕ → ℕ → Step ℕ A) → Type 0
 Shifted move f =
     (front s : List ℕ) (p : ℕ) → f (front ++ s) (length front + p) ≡ movedStep (move (length front)) (length front) (f s p)

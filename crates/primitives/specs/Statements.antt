@@ -89,8 +89,8 @@ abbrev pub endingAt : ℕ → Option (List ℕ) → Option Span
 endingAt q none = none
 endingAt q (some v) = some (record { start = q - length v; len = length v })
 
--- What is read is an encoding, stands there, and is shown by the span, which ends where the reading ends: it starts just
--- after its length.
+-- What is read is an encoding, stands there, and is shown by the span, which ends where the reading ends: it starts
+-- just after its length.
 abbrev pub SpanSound : Type 0
 SpanSound =
     (nullable : Bool) (s : List ℕ) (p : ℕ) (x : Option Span) (q : ℕ) → Bytes s → spanAt nullable s p ≡ ok x q
@@ -104,8 +104,8 @@ SpanComplete =
 
 -- ---- something in front
 
--- A list with something in front moves starts and places, and nothing else: integers, numbers of varying length, and bytes
--- that follow their length.
+-- A list with something in front moves starts and places, and nothing else: integers, numbers of varying length, and
+-- bytes that follow their length.
 abbrev pub IntegerShifted : Type 0
 IntegerShifted = (n : ℕ) → Shifted same (integerAt n)
 
@@ -117,8 +117,8 @@ SpanShifted = (nullable : Bool) → Shifted movedNullable (spanAt nullable)
 
 -- ---- document 01's starred rows of numbers
 
--- Each row, read at each of its widths, gives its value and its end, or its number; and where the writer gives the row's
--- bytes, they are what it gives for the value.
+-- Each row, read at each of its widths, gives its value and its end, or its number; and where the writer gives the
+-- row's bytes, they are what it gives for the value.
 abbrev pub StarredVarints : Type 0
 StarredVarints =
     (map readings starredVarints ≡ map expected starredVarints)

@@ -1,5 +1,5 @@
--- What the functions that read the parts of a record return: by the answer of each step before. The premises have the form
--- in which a proof finds them. Assumes nothing.
+-- What the functions that read the parts of a record return: by the answer of each step before. The premises have the
+-- form in which a proof finds them. Assumes nothing.
 use Prim.Native.Nat.{ℕ, _+_, _-_, _≤_}
 use mathlib.Core.Path.{_≡_, sym, ap, _∙_}
 use mathlib.Core.Bool.{Bool, true, false}

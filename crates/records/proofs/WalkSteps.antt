@@ -1,5 +1,5 @@
--- What the functions of the walk return: by the answer of each step before, whose tables the next one is lent. The premises
--- have the form in which a proof finds them. Assumes nothing.
+-- What the functions of the walk return: by the answer of each step before, whose tables the next one is lent. The
+-- premises have the form in which a proof finds them. Assumes nothing.
 use Prim.Native.Nat.{ℕ, _+_, _-_, _*_, _≤_, _<_, min}
 use mathlib.Core.Path.{_≡_, sym, ap, _∙_, subst}
 use mathlib.Core.List.{List, [], _∷_, _++_, append-assoc}

@@ -1,5 +1,5 @@
--- What the check and the reading of records return: the walk's answer, held to the end of the bytes, and then the tables'
--- room. The premises have the form in which a proof finds them. Assumes nothing.
+-- What the check and the reading of records return: the walk's answer, held to the end of the bytes, and then the
+-- tables' room. The premises have the form in which a proof finds them. Assumes nothing.
 use Prim.Native.Nat.{ℕ, _+_, _/_, _≤_, _<_}
 use mathlib.Core.Path.{_≡_, refl, sym, ap, _∙_}
 use mathlib.Core.Bool.{Bool, true, false, not}

@@ -1,4 +1,5 @@
--- By the strict grammar every part is forced: a number is its shortest bytes, and the attributes are 0. Assumes nothing.
+-- By the strict grammar every part is forced: a number is its shortest bytes, and the attributes are 0. Assumes
+-- nothing.
 use Prim.Native.Nat.{ℕ}
 use mathlib.Core.Path.{_≡_, refl, sym, ap, _∙_}
 use mathlib.Core.Bool.{true}

@@ -28,8 +28,8 @@ abbrev pub viewCheck : RecordsCheck → Step ℕ Counts
 viewCheck (RecordsCheck.Accepted n m q) = ok (record { records = n; headers = m }) q
 viewCheck (RecordsCheck.Refused f) = no (recordNumberOf f)
 
--- document 01, Reader's numbers: 0 and the counts with the place after the last record; 14 and the counts; any other number
--- alone. What is not named is 0.
+-- document 01, Reader's numbers: 0 and the counts with the place after the last record; 14 and the counts; any other
+-- number alone. What is not named is 0.
 pub record Answer : Type 0 where
   pub number : ℕ
   pub records : ℕ

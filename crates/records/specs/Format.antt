@@ -33,8 +33,8 @@ pub data Run {A : Type 0} (G : List ℕ → A → Type 0) : List ℕ → List A 
   more : {x y : List ℕ} {a : A} {rest : List A} → G x a → Run G y rest → Run G (x ++ y) (a ∷ rest)
 
 -- Kafka, message format, record header: key length and key, value length and value.
--- Limit of scope: a key is UTF-8 strictly by RFC 3629. Exception, as in the Rust: a value is not null, which Kafka's page
--- allows.
+-- Limit of scope: a key is UTF-8 strictly by RFC 3629.
+-- Exception, as in the Rust: a value is not null, which Kafka's page allows.
 pub record HeaderBytes (strict : Bool) (bs : List ℕ) (h : Header) : Type 0 where
   pub key : List ℕ
   pub value : List ℕ

@@ -1,5 +1,5 @@
--- Reading records, as functions of a list of bytes and a place in it, in document 01's order and with its numbers: those of
--- a field (8, 9 and 10), 11 where a header's key is no UTF-8, 13 where bytes are left.
+-- Reading records, as functions of a list of bytes and a place in it, in document 01's order and with its numbers:
+-- those of a field (8, 9 and 10), 11 where a header's key is no UTF-8, 13 where bytes are left.
 use Prim.Native.Nat.{ℕ, _+_}
 use mathlib.Core.Option.{Option, none, some}
 use mathlib.Core.Bool.{true, false}
@@ -95,8 +95,8 @@ withHeaders h hs =
 unfoldable pub fieldsAt : List ℕ → ℕ → Step ℕ RecordSpans
 fieldsAt s at = andThen (headAt s at) (λ h p. mapStep (withHeaders h) (times (headerAt s) (h .count) p))
 
--- Kafka, message format, record; document 01, A record: the fields are read from the nearer of the named end and the end
--- of the bytes, and have to end at the named end
+-- Kafka, message format, record; document 01, A record: the fields are read from the nearer of the named end and the
+-- end of the bytes, and have to end at the named end
 unfoldable pub recordAt : List ℕ → ℕ → Step ℕ RecordSpans
 recordAt s at =
     andThen (countAt s at) (λ n p.

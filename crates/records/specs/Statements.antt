@@ -1,5 +1,5 @@
--- The laws of records, each in words and then as a statement. What proves each stands in proofs/ under the statement's name
--- in small letters: `header-sound : HeaderSound`.
+-- The laws of records, each in words and then as a statement. What proves each stands in proofs/ under the statement's
+-- name in small letters: `header-sound : HeaderSound`.
 use Prim.Native.Nat.{ℕ, _+_, _*_, _<_, _≤_}
 use mathlib.Core.Path.{_≡_}
 use mathlib.Core.Bool.{Bool, true, false}
@@ -18,8 +18,8 @@ use Rattle.records.specs.Starred.{starredRows, read, due, written, given
 
 -- ---- reading is the format's
 
--- What is read as a header is one, and stands there; its spans show its key and its value, and each starts just after its
--- own length.
+-- What is read as a header is one, and stands there; its spans show its key and its value, and each starts just after
+-- its own length.
 abbrev pub HeaderSound : Type 0
 HeaderSound =
     (s : List ℕ) (p : ℕ) (h : HeaderSpans) (q : ℕ) → Bytes s → headerAt s p ≡ ok h q
@@ -176,7 +176,7 @@ RecordsShifted =
 
 -- ---- document 01's starred rows
 
--- Each row is read as it should be, numbers at each of their widths; and where the writer gives the row's bytes, they are
--- what it gives for the value.
+-- Each row is read as it should be, numbers at each of their widths; and where the writer gives the row's bytes, they
+-- are what it gives for the value.
 abbrev pub Starred : Type 0
 Starred = (map read starredRows ≡ map due starredRows) × (map written starredRows ≡ map given starredRows)

@@ -1,4 +1,5 @@
-// Records and their headers, read from lent bytes into lent tables. Names follow src/protocol/record.rs of rskafka 0.6.0.
+// Records and their headers, read from lent bytes into lent tables. Names follow src/protocol/record.rs of rskafka
+// 0.6.0.
 use primitives::Cursor;
 use primitives::Fault;
 use primitives::Int8Read;
@@ -164,8 +165,8 @@ pub fn check_records(bytes: &[u8], at: usize, count: usize) -> RecordsCheck
     }
 }
 
-// The same, and their rows in both tables: record rows from the table's first row on, header rows from `first_header_row`
-// on. No table is touched before all is known to be right and to have room.
+// The same, and their rows in both tables: record rows from the table's first row on, header rows from
+// `first_header_row` on. No table is touched before all is known to be right and to have room.
 pub fn read_records(
     bytes: &[u8],
     at: usize,
@@ -220,8 +221,8 @@ fn has_room(records: usize, headers: usize, first: usize, n: usize, m: usize) ->
     first <= rows - m
 }
 
-// The walk: passes `count` records, and puts their rows where the tables have such rows. With tables of no rows it is the
-// check; with the lent ones, once that has passed, it fills them.
+// The walk: passes `count` records, and puts their rows where the tables have such rows. With tables of no rows it is
+// the check; with the lent ones, once that has passed, it fills them.
 fn walk(
     s: &[u8],
     from: Cursor,
