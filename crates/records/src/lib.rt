@@ -166,7 +166,8 @@ pub fn check_records(bytes: &[u8], at: usize, count: usize) -> RecordsCheck
 }
 
 // The same, and their rows in both tables: record rows from the table's first row on, header rows from
-// `first_header_row` on. No table is touched before all is known to be right and to have room.
+// `first_header_row` on. Starts count from the first of `bytes`, which are cut where the records end and never at their
+// start: the place is passed beside them. No table is touched before all is known to be right and to have room.
 pub fn read_records(
     bytes: &[u8],
     at: usize,
