@@ -43,10 +43,6 @@ pub map-map : {P A B C : Type 0} (g : B → C) (f : A → B) (x : Step P A) → 
 map-map g f (ok a p) = refl
 map-map g f (no n) = refl
 
-pub map-id : {P A : Type 0} (x : Step P A) → mapStep (λ a. a) x ≡ x
-map-id (ok a p) = refl
-map-id (no n) = refl
-
 -- ---- things one after the other
 
 module _ {P A : Type 0} (f : P → Step P A) where

@@ -23,7 +23,7 @@ pub count-moves : (s : List ℕ) (p : ℕ) {n q : ℕ} → countAt s p ≡ ok n 
 unfolding countAt
 count-moves s p e = length-moves false s p (present-ok (lengthAt false s p) e)
 
-pub bytes-ends : (s : List ℕ) (p : ℕ) {x : Span} {q : ℕ} → bytesAt s p ≡ ok x q
+bytes-ends : (s : List ℕ) (p : ℕ) {x : Span} {q : ℕ} → bytesAt s p ≡ ok x q
     → (p < q) × (x .start + x .len ≡ q) × (q ≤ length s)
 unfolding bytesAt
 bytes-ends s p e =
@@ -34,7 +34,7 @@ bytes-ends s p e =
 
 -- ---- a header
 
-pub key-ends : (s : List ℕ) (p : ℕ) {x : Span} {q : ℕ} → keyAt s p ≡ ok x q
+key-ends : (s : List ℕ) (p : ℕ) {x : Span} {q : ℕ} → keyAt s p ≡ ok x q
     → (p < q) × (x .start + x .len ≡ q) × (q ≤ length s)
 unfolding keyAt
 key-ends s p {x} {q} e =
@@ -43,7 +43,7 @@ key-ends s p {x} {q} e =
     let is : bytesAt s p ≡ ok x q = cc in
     bytes-ends s p is
 
-pub header-moves : (s : List ℕ) (p : ℕ) {h : HeaderSpans} {q : ℕ} → headerAt s p ≡ ok h q → (p + 2 ≤ q) × (q ≤ length s)
+header-moves : (s : List ℕ) (p : ℕ) {h : HeaderSpans} {q : ℕ} → headerAt s p ≡ ok h q → (p + 2 ≤ q) × (q ≤ length s)
 unfolding headerAt
 header-moves s p e =
     let (k, m, was, e′) = and-then-ok (keyAt s p) _ e in
@@ -61,7 +61,7 @@ headers-bound s k p e =
     let (b, r) = after l in
     (omega arith, r)) k p e
 
-pub headers-move : (s : List ℕ) (k p : ℕ) {hs : List HeaderSpans} {q : ℕ} → times (headerAt s) k p ≡ ok hs q → p ≤ length s
+headers-move : (s : List ℕ) (k p : ℕ) {hs : List HeaderSpans} {q : ℕ} → times (headerAt s) k p ≡ ok hs q → p ≤ length s
     → (length hs ≡ k) × (p + 2 * k ≤ q) × (q ≤ length s)
 headers-move s k p e l =
     let n = times-count (headerAt s) k p e in
@@ -81,7 +81,7 @@ deltas-move s p e =
     let (c, r) = varint-moves 32 s n was″ in
     (omega arith, r)
 
-pub head-moves : (s : List ℕ) (p : ℕ) {h : Head} {q : ℕ} → headAt s p ≡ ok h q → (p + 6 ≤ q) × (q ≤ length s)
+head-moves : (s : List ℕ) (p : ℕ) {h : Head} {q : ℕ} → headAt s p ≡ ok h q → (p + 6 ≤ q) × (q ≤ length s)
 unfolding headAt
 head-moves s p e =
     let (d, m, was, e′) = and-then-ok (deltasAt s p) _ e in
@@ -94,7 +94,7 @@ head-moves s p e =
     let (f, r) = count-moves s o was‴ in
     (omega arith, r)
 
-pub fields-move : (s : List ℕ) (p : ℕ) {r : RecordSpans} {q : ℕ} → fieldsAt s p ≡ ok r q
+fields-move : (s : List ℕ) (p : ℕ) {r : RecordSpans} {q : ℕ} → fieldsAt s p ≡ ok r q
     → (p + 6 + 2 * length (r .headers) ≤ q) × (q ≤ length s)
 unfolding fieldsAt
 fields-move s p e =

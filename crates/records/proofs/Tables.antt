@@ -58,7 +58,7 @@ module _ (w : ℕ) (t : List ℤ) (row : ℕ) (numbers : List ℤ) where
   unfolding put
   put-out h = rw (lt-leb (row * w + w) (length t) h)
 
-  pub length-put : length numbers ≡ w → length (put w t row numbers) ≡ length t
+  length-put : length numbers ≡ w → length (put w t row numbers) ≡ length t
   length-put e =
       elim (decLe (row * w + w) (length t)) [
         | yes h ↦ rw (← put-in e h) (length-sets t (row * w) numbers)
