@@ -20,7 +20,8 @@ present-ok (ok none p) e = ok-not-no (sym e)
 present-ok (ok (some b) p) e = cc
 present-ok (no n) e = ok-not-no (sym e)
 
--- bytes are read as such, not as null
+-- ---- bytes are read as such, not as null
+
 null-not-some : {X : Type 0} {x : Span} → some x ≡ none → X
 null-not-some e = let z : _≡_ {A = ℕ} 0 1 = cc in absurd (omega arith)
 
@@ -29,9 +30,9 @@ never-null (pos n) s m e = null-not-some (pick-ok (leb (m + n) (length s)) (some
 never-null (negsuc zero) s m e = ok-not-no (sym e)
 never-null (negsuc (suc k)) s m e = ok-not-no (sym e)
 
-is-null : (s : List ℕ) (p : ℕ) {q : ℕ} {X : Type 0} → spanAt false s p ≡ ok none q → X
+null-refused : (s : List ℕ) (p : ℕ) {q : ℕ} {X : Type 0} → spanAt false s p ≡ ok none q → X
 unfolding spanAt lengthAt
-is-null s p e =
+null-refused s p e =
     let f = sym (and-then-and-then (varintAt 32 s p) (lengthOf false) (spanOf s)) ∙ e in
     let (n, m, _, j) = and-then-ok (varintAt 32 s p) (λ n m. andThen (lengthOf false n m) (spanOf s)) f in
     never-null n s m j
@@ -39,4 +40,4 @@ is-null s p e =
 pub bytes-of : (s : List ℕ) (p : ℕ) {x : Option Span} {q : ℕ} → spanAt false s p ≡ ok x q → (y : Span) × (bytesAt s p ≡ ok y q) × (spanRow x ≡ bytesRow y)
 unfolding bytesAt
 bytes-of s p {x = some y} e = (y, rw e, refl)
-bytes-of s p {x = none} e = is-null s p e
+bytes-of s p {x = none} e = null-refused s p e

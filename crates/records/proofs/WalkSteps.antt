@@ -34,7 +34,9 @@ use Rattle.records.proofs.Turns.{headers-again, headers-done, walkOn, a
 module _ (s : List ℕ) (t : List ℤ) (row k at : ℕ) (x : Step ℕ (List ℤ)) (inv : mapStep (putHeaders t row) (times (headerAt s) k at) ≡ x) where
   module _ (r : RecordHeaderRead) (e : viewHeader r ≡ mapStep headerRow (headerAt s at)) (some : 0 < k) where
     pub headers-stop : (f : RecordFault) → r ≡ RecordHeaderRead.Refused f → no (recordNumberOf f) ≡ x
-    headers-stop f g = sym (times-stop (headerAt s) (putHeaders t row) k at some (map-no headerRow (headerAt s at) (sym e ∙ ap viewHeader g))) ∙ inv
+    headers-stop f g =
+        let refused = map-no headerRow (headerAt s at) (sym e ∙ ap viewHeader g) in
+        sym (times-stop (headerAt s) (putHeaders t row) k at some refused) ∙ inv
 
     pub headers-turn : (h : RecordHeader) (next : Cursor) (t′ : List ℤ) → r ≡ RecordHeaderRead.Got h next
         → t′ ≡ put 4 t row (placeRow (h .key) ++ placeRow (h .value))
@@ -88,14 +90,21 @@ module _ (s : List ℕ) (at row first : ℕ) (rs hs : List ℤ) (a : RecordRead)
         → no (recordNumberOf g) ≡ mapStep (walkedRecord (tables rs hs) row first) (fieldsAt s at)
     unfolding fieldsAt
     fields-no-headers g h =
-        rw (head-is .1, ap (λ (x : Heading). x .count) (head-is .2), map-no (putHeaders hs first) (times (headerAt s) (r .headers) (next .at)) (sym e′ ∙ ap (λ (x : Filled). viewFilled x hs′) h))
+        rw (
+          head-is .1,
+          ap (λ (x : Heading). x .count) (head-is .2),
+          map-no (putHeaders hs first) (times (headerAt s) (r .headers) (next .at)) (sym e′ ∙ ap (λ (x : Filled). viewFilled x hs′) h),
+        )
 
     pub fields-got : (end : Cursor) (rs′ : List ℤ) → b ≡ Filled.To end
         → rs′ ≡ put 8 rs row (r .deltas .timestamp ∷ r .deltas .offset ∷ (placeRow (r .key) ++ (placeRow (r .value) ++ (pos first ∷ pos (r .headers) ∷ []))))
         → ok (record { headers = r .headers; tables = tables rs′ hs′ }) (end .at) ≡ mapStep (walkedRecord (tables rs hs) row first) (fieldsAt s at)
     fields-got end rs′ g p =
-        let (ks, is, same) = map-ok (putHeaders hs first) (times (headerAt s) (r .headers) (next .at)) (sym e′ ∙ ap (λ (x : Filled). viewFilled x hs′) g) in
-        fields-are s at row first rs hs (head-is .0) (next .at) (head-is .1) (ap (λ (x : Heading). x .numbers) (head-is .2)) (ap (λ (x : Heading). x .count) (head-is .2)) ks (end .at) is p same
+        let filled = sym e′ ∙ ap (λ (x : Filled). viewFilled x hs′) g in
+        let (ks, is, same) = map-ok (putHeaders hs first) (times (headerAt s) (r .headers) (next .at)) filled in
+        let numbers = ap (λ (x : Heading). x .numbers) (head-is .2) in
+        let count = ap (λ (x : Heading). x .count) (head-is .2) in
+        fields-are s at row first rs hs (head-is .0) (next .at) (head-is .1) numbers count ks (end .at) is p same
 
 -- ---- a record
 
@@ -122,23 +131,29 @@ module _ (s : List ℕ) (at row first : ℕ) (t : Tables) (a : CountRead) (e : v
     module _ (end : ℕ) (g : end ≡ min (start .at + n) (length s)) (b : Passed) (t′ : Tables)
         (e′ : viewWalk b t′ ≡ mapStep (walkedRecord t row first) (fieldsAt (take end s) (start .at))) where
       window : viewWalk b t′ ≡ mapStep (walkedRecord t row first) (fieldsAt (take (start .at + n) s) (start .at))
-      window = e′ ∙ ap (λ (w : List ℕ). mapStep (walkedRecord t row first) (fieldsAt w (start .at))) (ap (λ (m : ℕ). take m s) g ∙ take-min (start .at + n) s)
+      window =
+          let same = ap (λ (m : ℕ). take m s) g ∙ take-min (start .at + n) s in
+          e′ ∙ ap (λ (w : List ℕ). mapStep (walkedRecord t row first) (fieldsAt w (start .at))) same
 
       pub record-refused : (h : RecordFault) → b ≡ Passed.Refused h → no (recordNumberOf h) ≡ mapStep (walkedRecord t row first) (recordAt s at)
       unfolding recordAt
       record-refused h i =
-          rw (sym e ∙ ap viewCount f, map-no (walkedRecord t row first) (fieldsAt (take (start .at + n) s) (start .at)) (sym window ∙ ap (λ (x : Passed). viewWalk x t′) i))
+          let refused = sym window ∙ ap (λ (x : Passed). viewWalk x t′) i in
+          rw (sym e ∙ ap viewCount f, map-no (walkedRecord t row first) (fieldsAt (take (start .at + n) s) (start .at)) refused)
 
       module _ (m : ℕ) (next : Cursor) (h : b ≡ Passed.Headers m next) where
         fields-read : (r : RecordSpans) × (fieldsAt (take (start .at + n) s) (start .at) ≡ ok r (next .at))
             × (walkedRecord t row first r ≡ record { headers = m; tables = t′ })
-        fields-read = map-ok (walkedRecord t row first) (fieldsAt (take (start .at + n) s) (start .at)) (sym window ∙ ap (λ (x : Passed). viewWalk x t′) h)
+        fields-read =
+            let passed = sym window ∙ ap (λ (x : Passed). viewWalk x t′) h in
+            map-ok (walkedRecord t row first) (fieldsAt (take (start .at + n) s) (start .at)) passed
 
         pub record-got : next .at ≡ start .at + n
             → ok (record { headers = m; tables = t′ }) (next .at) ≡ mapStep (walkedRecord t row first) (recordAt s at)
         unfolding recordAt
         record-got i =
-            rw (sym e ∙ ap viewCount f, fields-read .1, eq-eqb (next .at) (start .at + n) i) (ap (λ (w : Walked). ok w (next .at)) (sym (fields-read .2)))
+            rw (sym e ∙ ap viewCount f, fields-read .1, eq-eqb (next .at) (start .at + n) i)
+            (ap (λ (w : Walked). ok w (next .at)) (sym (fields-read .2)))
 
         pub record-left : (next .at ≡ start .at + n → ⊥) → no 13 ≡ mapStep (walkedRecord t row first) (recordAt s at)
         unfolding recordAt

@@ -29,7 +29,8 @@ use Rattle.records.proofs.Tables.{records-filled}
 module _ (s : List ℕ) (count at first : ℕ) (t t′ : Tables) (b : Passed) (e : viewWalk b t′ ≡ mapStep (walkedRecords t 0 first) (runAt s count at)) where
   pub check-refused : (f : RecordFault) → b ≡ Passed.Refused f → no (recordNumberOf f) ≡ mapStep countsOf (recordsAt s count at)
   check-refused f g =
-      rw (refused-is s count at (map-no (walkedRecords t 0 first) (runAt s count at) (sym e ∙ ap (λ (x : Passed). viewWalk x t′) g)))
+      let refused = sym e ∙ ap (λ (x : Passed). viewWalk x t′) g in
+      rw (refused-is s count at (map-no (walkedRecords t 0 first) (runAt s count at) refused))
 
   module _ (m : ℕ) (next : Cursor) (f : b ≡ Passed.Headers m next) where
     run-is : (rs : List RecordSpans) × (runAt s count at ≡ ok rs (next .at)) × (walkedRecords t 0 first rs ≡ record { headers = m; tables = t′ })
@@ -48,7 +49,8 @@ module _ (s : List ℕ) (count at first : ℕ) (t t′ : Tables) (b : Passed) (e
     pub check-got : length s ≤ next .at → next .at ≤ length s
         → ok (record { records = count; headers = m }) (next .at) ≡ mapStep countsOf (recordsAt s count at)
     check-got g h =
-        rw (all-is s count at (run-is .1) g h) (λ i. ok (record { records = sym run-count i; headers = sym (ap (λ (x : Walked). x .headers) (run-is .2)) i }) (next .at))
+        let headers = sym (ap (λ (x : Walked). x .headers) (run-is .2)) in
+        rw (all-is s count at (run-is .1) g h) (λ i. ok (record { records = sym run-count i; headers = headers i }) (next .at))
 
 -- ---- the room, and the tables
 

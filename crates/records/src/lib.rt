@@ -421,7 +421,7 @@ fn read_deltas(c: Cursor, s: &[u8]) -> DeltasRead
     }
 }
 
-// A header's key, which may not be null and has to be UTF-8.
+// A header's key, which has to be UTF-8. Null is not allowed there, and would be as wrong as any negative length.
 fn read_key(c: Cursor, s: &[u8]) -> KeyRead
     ensures { λ r. ⌜ viewKey r ≡ mapStep bytesRow (keyAt (now (s .entry)) (c .at)) ⌝ }
 {
@@ -440,7 +440,7 @@ fn read_key(c: Cursor, s: &[u8]) -> KeyRead
     }
 }
 
-// A record's length, or a number of headers.
+// A record's length, or a number of headers. Null is not allowed there, and would be as wrong as any negative length.
 fn read_count(c: Cursor, s: &[u8]) -> CountRead
     ensures { λ r. ⌜ viewCount r ≡ countAt (now (s .entry)) (c .at) ⌝ }
 {

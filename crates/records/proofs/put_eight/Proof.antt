@@ -96,7 +96,23 @@ returns c =
     let e₅ : at + 5 ≡ suc (suc (suc (suc (suc at)))) = omega arith in
     let e₆ : at + 6 ≡ suc (suc (suc (suc (suc (suc at))))) = omega arith in
     let e₇ : at + 7 ≡ suc (suc (suc (suc (suc (suc (suc at)))))) = omega arith in
-    rw (toZ-ofZ w64 _ (c .before .fits .a), toZ-ofZ w64 _ (c .before .fits .b), toZ-ofZ w64 _ (c .before .fits .c), toZ-ofZ w64 _ (c .before .fits .d), toZ-ofZ w64 _ (c .before .fits .e), toZ-ofZ w64 _ (c .before .fits .f), toZ-ofZ w64 _ (c .before .fits .g), toZ-ofZ w64 _ (c .before .fits .h), e₁, e₂, e₃, e₄, e₅, e₆, e₇) (put-in 8 _ _ (_ ∷ _ ∷ _ ∷ _ ∷ _ ∷ _ ∷ _ ∷ _ ∷ []) refl (omega arith))
+    rw (
+      toZ-ofZ w64 _ (c .before .fits .a),
+      toZ-ofZ w64 _ (c .before .fits .b),
+      toZ-ofZ w64 _ (c .before .fits .c),
+      toZ-ofZ w64 _ (c .before .fits .d),
+      toZ-ofZ w64 _ (c .before .fits .e),
+      toZ-ofZ w64 _ (c .before .fits .f),
+      toZ-ofZ w64 _ (c .before .fits .g),
+      toZ-ofZ w64 _ (c .before .fits .h),
+      e₁,
+      e₂,
+      e₃,
+      e₄,
+      e₅,
+      e₆,
+      e₇,
+    ) (put-in 8 _ _ (_ ∷ _ ∷ _ ∷ _ ∷ _ ∷ _ ∷ _ ∷ _ ∷ []) refl (omega arith))
 
 returns-2 : tie.Need-returns-2
 returns-2 c = put-out 8 _ _ _ (omega arith)

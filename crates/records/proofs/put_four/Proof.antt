@@ -56,7 +56,15 @@ returns c =
     let e₁ : at + 1 ≡ suc at = omega arith in
     let e₂ : at + 2 ≡ suc (suc at) = omega arith in
     let e₃ : at + 3 ≡ suc (suc (suc at)) = omega arith in
-    rw (toZ-ofZ w64 _ (c .before .fits .a), toZ-ofZ w64 _ (c .before .fits .b), toZ-ofZ w64 _ (c .before .fits .c), toZ-ofZ w64 _ (c .before .fits .d), e₁, e₂, e₃) (put-in 4 _ _ (_ ∷ _ ∷ _ ∷ _ ∷ []) refl (omega arith))
+    rw (
+      toZ-ofZ w64 _ (c .before .fits .a),
+      toZ-ofZ w64 _ (c .before .fits .b),
+      toZ-ofZ w64 _ (c .before .fits .c),
+      toZ-ofZ w64 _ (c .before .fits .d),
+      e₁,
+      e₂,
+      e₃,
+    ) (put-in 4 _ _ (_ ∷ _ ∷ _ ∷ _ ∷ []) refl (omega arith))
 
 returns-2 : tie.Need-returns-2
 returns-2 c = put-out 4 _ _ _ (omega arith)

@@ -14,7 +14,10 @@ same-length : tie.Need-same-length
 same-length c = search needs
 
 returns : tie.Need-returns
-returns c = same-row 4 _ _ (c .before .put-four .ensures) (toZ-ofZ w64 _ (search needs) then toZ-ofZ w64 _ (search needs) then toZ-ofZ w64 _ (search needs) then toZ-ofZ w64 _ (search needs) then refl)
+returns c =
+    same-row 4 _ _ (c .before .put-four .ensures)
+    (toZ-ofZ w64 _ (search needs) then toZ-ofZ w64 _ (search needs)
+    then toZ-ofZ w64 _ (search needs) then toZ-ofZ w64 _ (search needs) then refl)
 
 pub put-header-spec : {M : Type 1} → statement M
 put-header-spec = tie.close (tie.spec put-four-requires same-length returns)

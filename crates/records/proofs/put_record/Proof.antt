@@ -21,7 +21,12 @@ same-length : tie.Need-same-length
 same-length c = search needs
 
 returns : tie.Need-returns
-returns c = same-row 8 _ _ (c .before .put-eight .ensures) (toZ-ofZ w64 _ (search needs) then toZ-ofZ w64 _ (search needs) then toZ-ofZ w64 _ (search needs) then toZ-ofZ w64 _ (search needs) then toZ-ofZ w64 _ (search needs) then toZ-ofZ w64 _ (search needs) then toZ-pos w64 _ (omega arith) then toZ-pos w64 _ (omega arith) then refl)
+returns c =
+    same-row 8 _ _ (c .before .put-eight .ensures)
+    (toZ-ofZ w64 _ (search needs) then toZ-ofZ w64 _ (search needs)
+    then toZ-ofZ w64 _ (search needs) then toZ-ofZ w64 _ (search needs)
+    then toZ-ofZ w64 _ (search needs) then toZ-ofZ w64 _ (search needs)
+    then toZ-pos w64 _ (omega arith) then toZ-pos w64 _ (omega arith) then refl)
 
 pub put-record-spec : {M : Type 1} → statement M
 put-record-spec =

@@ -21,10 +21,13 @@ returns c = search read-no-room
 
 walk-requires : tie.Need-walk-requires
 walk-requires c κs =
+    let entry = c .before .before .before .before .before .before .before .before .before in
+    let counts = c .before .before .before .before .before .n .given in
+    let room = c .before .before .before .has-room in
     omega (
       arith,
-      first-fits (c .before .before .before .before .before .n .given .0 .0) (c .before .before .before .before .before .n .given .0 .1 .0) (c .before .before .before .before .before .before .before .before .before .args .first-header-row) (length (now (c .before .before .before .before .before .before .before .before .before .args .records)))
-          (length (now (c .before .before .before .before .before .before .before .before .before .args .headers))) (c .before .before .before .has-room .result) (c .before .before .before .has-room .ensures) (c .before .before .if1 .left),
+      first-fits (counts .0 .0) (counts .0 .1 .0) (entry .args .first-header-row) (length (now (entry .args .records)))
+          (length (now (entry .args .headers))) (room .result) (room .ensures) (c .before .before .if1 .left),
     )
 
 enum-known-f : tie.Need-enum-known-f
