@@ -15,7 +15,7 @@ use lib.Pow.{pow-pos, pow-mono, pow-add, high-ones}
 use Rattle.primitives.specs.Bytes.{Bytes}
 use Rattle.primitives.specs.Step.{ok, no}
 use Rattle.primitives.specs.Stands.{Stands}
-use Rattle.primitives.specs.Format.{bigEndian, complement, InBits, Unsigned}
+use Rattle.primitives.specs.Format.{bigEndian, complement, InBits, Unsigned, Integer}
 use Rattle.primitives.specs.Reading.{big, unsignedAt, signedBy, integerAt}
 use Rattle.primitives.specs.Statements.{UnsignedSound, UnsignedComplete, IntegerSound, IntegerComplete}
 use Rattle.primitives.proofs.Places.{nothing, one, joined, byte, after}
@@ -182,3 +182,11 @@ complement-narrow n (negsuc k) h b =
     let g : 2 ^ 64 - suc k ≡ 2 ^ w - suc k + (2 ^ (64 - w) - 1) * 256 ^ n =
     rw bytes-are-bits (omega (arith, pow-mono {i = w - 1} {j = w} (omega arith), pow-mono {i = w} {j = 64} (omega arith))) in
     ap (bigEndian n) g ∙ big-endian-low n (2 ^ (64 - w) - 1) (2 ^ w - suc k)
+
+-- ---- as many bytes as the width says
+
+pub unsigned-length : {n : ℕ} {bs : List ℕ} {v : ℕ} → Unsigned n bs v → length bs ≡ n
+unsigned-length {n} {v = v} u = ap length (u .is) ∙ big-endian-length n v
+
+pub integer-length : {n : ℕ} {bs : List ℕ} {z : ℤ} → Integer n bs z → length bs ≡ n
+integer-length {n} {z = z} i = ap length (i .is) ∙ big-endian-length n (complement (8 * n) z)

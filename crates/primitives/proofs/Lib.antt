@@ -5,6 +5,7 @@ pub mod Lengths
 pub mod Mask
 pub mod Moves
 pub mod Numbers
+pub mod Picks
 pub mod Places
 pub mod Shifted
 pub mod Shortest
@@ -14,6 +15,7 @@ pub mod Spans
 pub mod Starred
 pub mod Steps
 pub mod Turns
+pub mod Values
 pub mod Varints
 pub mod Windows
 pub mod Written

@@ -2,12 +2,12 @@
 -- Assumes nothing.
 use Prim.Native.Nat.{ℕ, _+_, _≤_, _<_}
 use mathlib.Core.Path.{_≡_, refl, sym, ap, _∙_}
-use mathlib.Core.List.{List, [], _∷_, _++_, append-assoc}
+use mathlib.Core.List.{List, [], _∷_, _++_, append-assoc, append-nil}
 use native.Mathlib.Omega.{arith}
 use native.Mathlib.Numerals.{add-one}
 use native.Mathlib.Nat.{add-zero}
-use lib.ListN.{length, getD, take, drop, length-append}
-use lib.Seq.{drop-cons, getD-drop, drop-drop, drop-append-seam, take-append-seam}
+use lib.ListN.{length, getD, take, drop, length-append, drop-of-length-le}
+use lib.Seq.{drop-cons, drop-length, getD-drop, drop-drop, drop-append-seam, take-append-seam}
 use Rattle.primitives.specs.Stands.{Stands}
 
 -- none
@@ -64,3 +64,15 @@ module _ {s : List ℕ} {p r : ℕ} (a b : List ℕ) (x : Stands s p r (a ++ b))
   pub second : Stands s (p + length a) r b
   second =
       record { split = left-over; end = omega (arith, length-append a b, x .end); within = x .within }
+
+-- all of a list
+pub whole : (bs : List ℕ) → Stands bs 0 (length bs) bs
+whole bs = rw append-nil at (in-front bs [])
+
+-- what stands up to the end of a list is all that is left there
+pub all-left : {s : List ℕ} {p : ℕ} {bs : List ℕ} → Stands s p (length s) bs → drop p s ≡ bs
+all-left {s} {bs = bs} x = x .split ∙ ap (λ (t : List ℕ). bs ++ t) (drop-length s) ∙ append-nil bs
+
+-- what adds no length is nothing
+pub no-rest : (bs rest : List ℕ) → length bs ≡ length (bs ++ rest) → rest ≡ []
+no-rest bs rest e = sym (drop-append-seam bs rest) ∙ drop-of-length-le (bs ++ rest) {i = length bs} (omega arith)

@@ -63,7 +63,7 @@ unfolding times
 times-shifted move f each zero front s p = refl
 times-shifted move f each (suc n) front s p = simp (each, times-shifted move f each n, moved)
 
-big-shifted : (n : ℕ) (front s : List ℕ) (p : ℕ) → big n (front ++ s) (length front + p) ≡ big n s p
+pub big-shifted : (n : ℕ) (front s : List ℕ) (p : ℕ) → big n (front ++ s) (length front + p) ≡ big n s p
 unfolding big
 big-shifted zero front s p = refl
 big-shifted (suc n) front s p = simp (big-shifted n, add-assoc, getD-append-add)

@@ -1,6 +1,6 @@
 -- Signed numbers as the machine holds them, over the width: what the casts and `-1 - x` mean. A signed local holds bits,
 -- and what is read of them is the number again, since the number fits. Assumes nothing.
-use Prim.Native.Nat.{ℕ, zero, suc, _-_, _*_, _^_, _≤_, _<_}
+use Prim.Native.Nat.{ℕ, zero, suc, _*_, _^_, _≤_, _<_}
 use mathlib.Core.Path.{_≡_, refl, ap, _∙_, subst⁻¹}
 use mathlib.Core.Bool.{Bool, true, false, not}
 use native.Mathlib.Omega.{arith}

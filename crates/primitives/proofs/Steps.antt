@@ -2,6 +2,7 @@
 use Prim.Native.Nat.{ℕ, zero, suc, _-_, _<_}
 use mathlib.Core.Path.{_≡_, refl, sym, ap, _∙_, subst}
 use mathlib.Core.Bool.{Bool, true, false}
+use mathlib.Core.Logic.{_⊎_, inl, inr}
 use mathlib.Core.List.{List, [], _∷_, _++_}
 use native.Mathlib.Omega.{arith}
 use lib.ListN.{length, take}
@@ -18,6 +19,12 @@ module _ {P A B : Type 0} where
       → (a : A) × (p : P) × (x ≡ ok a p) × (f a p ≡ ok b q)
   and-then-ok (ok a p) f e = (a, p, refl, e)
   and-then-ok (no n) f e = ok-not-no (sym e)
+
+  -- a refusal is that of the one or of the other
+  pub and-then-no : (x : Step P A) (f : A → P → Step P B) {n : ℕ} → andThen x f ≡ no n
+      → (x ≡ no n) ⊎ ((a : A) × (p : P) × (x ≡ ok a p) × (f a p ≡ no n))
+  and-then-no (ok a p) f e = inr (a, p, refl, e)
+  and-then-no (no m) f {n} e = let w : m ≡ n = cc in inl (ap no w)
 
   pub map-ok : (f : A → B) (x : Step P A) {b : B} {q : P} → mapStep f x ≡ ok b q → (a : A) × (x ≡ ok a q) × (f a ≡ b)
   map-ok f (ok a p) {b} {q} e = let w : p ≡ q = cc in (a, ap (ok a) w, cc)

@@ -3,19 +3,19 @@
 use Prim.Native.Nat.{ℕ, zero, suc, _+_, _-_, _*_, _^_, _≤_, _<_}
 use mathlib.Core.Path.{_≡_, refl, sym, ap, _∙_, subst}
 use mathlib.Core.Bool.{false}
-use mathlib.Core.List.{List, [], _∷_, _++_, append-nil}
+use mathlib.Core.List.{List, _++_}
 use native.Mathlib.Omega.{arith}
 use native.Mathlib.Nat.{pow-succ'}
 use lib.Pow.{pow-add, pow-mono, pow-pos}
 use lib.IntN.{ℤ}
-use lib.ListN.{length, length-append}
+use lib.ListN.{length}
 use Rattle.primitives.specs.Step.{ok, mapStep}
 use Rattle.primitives.specs.Stands.{Stands, Encoding}
 use Rattle.primitives.specs.Format.{zigzag, groups, Varies}
 use Rattle.primitives.specs.Reading.{codeAt, full, limit, unzigzag, varintAt}
 use Rattle.primitives.specs.Statements.{VarintSound, VarintComplete, VarintUnambiguous}
 use Rattle.primitives.proofs.Steps.{map-ok}
-use Rattle.primitives.proofs.Places.{in-front}
+use Rattle.primitives.proofs.Places.{in-front, whole, no-rest}
 use Rattle.primitives.proofs.Zigzag.{zigzag-back, zigzag-again, zigzag-below, zigzag-in-bits}
 use Rattle.primitives.proofs.Codes.{Code, code-sound, code-complete}
 
@@ -82,13 +82,8 @@ varint-complete w strict s p q bs n h x v =
 
 -- ---- an encoding is read at the front of any list, so none is a proper beginning of another
 
-none-left : (bs rest : List ℕ) → length bs ≡ length (bs ++ rest) → rest ≡ []
-none-left bs [] e = refl
-none-left bs (x ∷ rest) e = absurd (omega (arith, length-append bs (x ∷ rest)))
-
 pub varint-unambiguous : VarintUnambiguous
 varint-unambiguous w strict strict′ bs rest m n h u v =
     let a = varint-complete w strict (bs ++ rest) 0 (length bs) bs m h (in-front bs rest) u in
-    let all : Stands (bs ++ rest) 0 (length (bs ++ rest)) (bs ++ rest) = rw append-nil at (in-front (bs ++ rest) []) in
-    let b = varint-complete w strict′ (bs ++ rest) 0 (length (bs ++ rest)) (bs ++ rest) n h all v in
-    (none-left bs rest (cc), cc)
+    let b = varint-complete w strict′ (bs ++ rest) 0 (length (bs ++ rest)) (bs ++ rest) n h (whole (bs ++ rest)) v in
+    (no-rest bs rest (cc), cc)

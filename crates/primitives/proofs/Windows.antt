@@ -1,15 +1,16 @@
 -- A window on a list: what stands in the list and ends within the window stands in the window, at the same place, since
 -- both are cut at the same end; and what stands in the window stands in the list, since the rest comes after it.
 -- Assumes nothing.
-use Prim.Native.Nat.{ℕ, _+_, _-_, _≤_}
-use mathlib.Core.Path.{_≡_, subst}
+use Prim.Native.Nat.{ℕ, zero, suc, _+_, _-_, _≤_}
+use mathlib.Core.Path.{_≡_, refl, subst}
 use mathlib.Core.List.{List, _++_, append-assoc}
 use native.Mathlib.Omega.{arith}
 use native.Mathlib.Decide.{decLt}
-use lib.ListN.{length, take, drop, length-append, length-take, take-append-drop, List·getD-eq-default}
+use lib.ListN.{length, take, drop, length-append, length-take, take-append-drop, List·getD-eq-default, List·getD-append}
 use lib.Seq.{length-take-le, take-add, drop-at, drop-append-le, take-append-add, getD-take}
 use Rattle.primitives.specs.Bytes.{Bytes}
 use Rattle.primitives.specs.Stands.{Stands}
+use Rattle.primitives.specs.Reading.{big}
 
 -- ---- from the list to the window
 
@@ -54,3 +55,16 @@ window-bytes e s b i =
       | yes h ↦ rw (getD-take e s i 0 h) (b i)
       | no h ↦ rw (List·getD-eq-default (take e s) 0 {n = i} (simp length-take (omega arith))) (omega arith)
     ]
+
+-- ---- a number, in a window that holds it and in a longer list
+
+pub big-window : (n e : ℕ) (s : List ℕ) (p : ℕ) → p + n ≤ e → big n (take e s) p ≡ big n s p
+unfolding big
+big-window zero e s p h = refl
+big-window (suc k) e s p h = rw (big-window k e s p (omega arith), getD-take e s (p + k) 0 (omega arith))
+
+pub big-longer : (n : ℕ) (s after : List ℕ) (at : ℕ) → at + n ≤ length s → big n (s ++ after) at ≡ big n s at
+unfolding big
+big-longer zero s after at h = refl
+big-longer (suc k) s after at h =
+    rw (big-longer k s after at (omega arith), List·getD-append s after 0 (at + k) (omega arith))

@@ -1,6 +1,6 @@
 -- An encoding that stands at any place of any list is read, up to its end, with the spans of its parts: each part is
 -- read where it stands, and a record's own window holds its fields. Assumes nothing.
-use Prim.Native.Nat.{ℕ, _+_, _-_}
+use Prim.Native.Nat.{ℕ, _+_}
 use mathlib.Core.Path.{_≡_, refl, sym, ap, _∙_}
 use mathlib.Core.Bool.{Bool, true, false}
 use mathlib.Core.Option.{Option, none, some}

@@ -1,6 +1,6 @@
 -- Each step of the reading reads one part of the format, from the place where the part before it ends: so what was read
 -- is an encoding that stands there, and its spans are where the parts stand. Assumes nothing.
-use Prim.Native.Nat.{ℕ, zero, suc, _+_, _-_, _≤_}
+use Prim.Native.Nat.{ℕ, zero, suc, _+_, _≤_}
 use mathlib.Core.Path.{_≡_, refl, sym, ap, _∙_, subst, subst₂}
 use mathlib.Core.Bool.{true, false}
 use mathlib.Core.Option.{Option, none, some}

@@ -8,16 +8,16 @@ use mathlib.Core.List.{List}
 use native.Mathlib.Omega.{arith}
 use lib.IntN.{ℤ}
 use lib.ListN.{length, length-append}
-use Rattle.primitives.specs.Format.{Integer, zigzag, complement, Varies, Sized, Nullable}
+use Rattle.primitives.specs.Format.{zigzag, Varies, Sized, Nullable}
 use Rattle.primitives.proofs.Shortest.{groups-length}
-use Rattle.primitives.proofs.Integers.{big-endian-length}
+use Rattle.primitives.proofs.Integers.{integer-length}
 use Rattle.records.specs.Format.{Record, Run, Fields, RecordsBytes}
 use Rattle.records.specs.Statements.{sizes, total, SizesAddUp, HeaderLeast, RecordLeast}
 use Rattle.records.proofs.Sound.{records-sound}
 
 -- ---- sizes add up
 
-total-sizes : {strict : Bool} {bs : List ℕ} {rs : List Record} (g : RecordsBytes strict bs rs) → length bs ≡ total (sizes g)
+pub total-sizes : {strict : Bool} {bs : List ℕ} {rs : List Record} (g : RecordsBytes strict bs rs) → length bs ≡ total (sizes g)
 unfolding sizes total
 total-sizes Run.ended = refl
 total-sizes (Run.more {x} {y} g rest) = length-append x y ∙ ap (λ (n : ℕ). length x + n) (total-sizes rest)
@@ -48,14 +48,11 @@ pub header-least : HeaderLeast
 header-least strict bs h g =
     rw (g .is, length-append (g .key) (g .value)) (omega (arith, sized-least (g .keyed), sized-least (g .valued)))
 
-integer-size : {n : ℕ} {bs : List ℕ} {z : ℤ} → Integer n bs z → length bs ≡ n
-integer-size {n} {z = z} g = ap length (g .is) ∙ big-endian-length n (complement (8 * n) z)
-
 fields-least : {strict : Bool} {bs : List ℕ} {r : Record} → Fields strict bs r → 6 + 2 * length (r .headers) ≤ length bs
 fields-least {strict} {r = r} g =
     rw (g .is) (simp length-append (omega (
       arith,
-      integer-size (g .attributed),
+      integer-length (g .attributed),
       varies-least (g .timestamped),
       varies-least (g .offset),
       nullable-least strict (g .key) (r .key) (g .keyed),

@@ -2,7 +2,7 @@
 -- all else stays. Assumes nothing.
 use Prim.Native.Nat.{ℕ, suc, _+_, _-_, _*_, _/_, _≤_, _<_}
 use mathlib.Core.Path.{_≡_, refl, sym, ap, _∙_}
-use mathlib.Core.Bool.{Bool, true, false}
+use mathlib.Core.Bool.{true, false}
 use mathlib.Core.Option.{Option, none, some}
 use mathlib.Core.List.{List, [], _∷_, _++_, map, append-assoc}
 use native.Mathlib.Omega.{arith}
@@ -14,6 +14,7 @@ use lib.IntN.{ℤ}
 use lib.ListN.{length, take, drop, length-append, length-map, take-append-drop}
 use lib.Seq.{sets, sets-eq, length-sets, length-take-le, take-at, drop-append-add, drop-drop}
 use Rattle.primitives.specs.Pick.{pick}
+use Rattle.primitives.proofs.Picks.{both-hold}
 use Rattle.primitives.specs.Reading.{Span}
 use Rattle.records.specs.Judgement.{HeaderSpans, RecordSpans}
 use Rattle.records.specs.Rows.{spanRow, headerRow, recordRow, headersIn, recordRows, headerRows, joined, filled, Tables, roomy, withRows}
@@ -175,15 +176,11 @@ length-header-rows (r ∷ rest) = rw (length-append, length-map, length-header-r
 
 -- ---- both tables
 
-pick-both : (a b : Bool) → pick a b false ≡ true → (a ≡ true) × (b ≡ true)
-pick-both true b e = (refl, e)
-pick-both false b e = (e, cc)
-
 pub records-filled : (first : ℕ) (rs : List RecordSpans) (t : Tables) → roomy first rs t ≡ true
     → putRecords t 0 first rs ≡ withRows first rs t
 unfolding roomy withRows
 records-filled first rs t e =
-    let (a, b) = pick-both (leb (length rs) (length (t .records) / 8)) (leb (first + headersIn rs) (length (t .headers) / 4)) e in
+    let (a, b) = both-hold (leb (length rs) (length (t .records) / 8)) (leb (first + headersIn rs) (length (t .headers) / 4)) e in
     let c = leb-true (length rs) (length (t .records) / 8) a in
     let d = leb-true (first + headersIn rs) (length (t .headers) / 4) b in
     let p = rows-filled 8 (t .records) 0 (recordRows first rs) (records-wide first rs) (rw length-record-rows (omega arith)) in

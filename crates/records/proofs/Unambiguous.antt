@@ -1,24 +1,19 @@
 -- An encoding is read at the front of any list, and reading gives one answer: so none is a proper beginning of another,
 -- and two values do not share one. Assumes nothing.
 use Prim.Native.Nat.{ℕ, _+_}
-use mathlib.Core.Path.{_≡_, refl, sym, _∙_, subst}
+use mathlib.Core.Path.{_≡_, refl, sym, subst}
 use mathlib.Core.Bool.{Bool}
-use mathlib.Core.List.{List, [], _++_, append-nil}
+use mathlib.Core.List.{List, [], _++_}
 use native.Mathlib.Omega.{arith}
-use lib.ListN.{length, length-append, drop-of-length-le}
-use lib.Seq.{drop-append-seam}
+use lib.ListN.{length, length-append}
 use Rattle.primitives.specs.Step.{Step, ok}
 use Rattle.primitives.specs.Stands.{Stands}
-use Rattle.primitives.proofs.Places.{in-front, first, second}
+use Rattle.primitives.proofs.Places.{in-front, first, second, whole, no-rest}
 use Rattle.records.specs.Format.{Record, Run, RecordsBytes}
 use Rattle.records.specs.Placed.{shownRecord, shownRecords}
 use Rattle.records.specs.Statements.{RecordUnambiguous, RunUnambiguous, RunsEqual}
 use Rattle.records.proofs.Sizes.{record-least}
 use Rattle.records.proofs.Complete.{record-complete, run-complete}
-
--- all of a list
-whole : (bs : List ℕ) → Stands bs 0 (length bs) bs
-whole bs = rw append-nil at (in-front bs [])
 
 -- ---- one answer, whatever stands after an encoding
 
@@ -31,7 +26,7 @@ module _ {A R : Type 0} (show : R → A) {x : Step ℕ R} {u v : R} {a b : A} wh
       → (rest ≡ []) × (a ≡ b)
   one-meaning bs rest m n =
       let (ends, values) = same-answer m n in
-      (sym (drop-append-seam bs rest) ∙ drop-of-length-le (bs ++ rest) {i = length bs} (omega arith), values)
+      (no-rest bs rest ends, values)
 
 pub record-unambiguous : RecordUnambiguous
 record-unambiguous strict strict′ bs rest a b g h =

@@ -1,7 +1,7 @@
 -- What the check and the reading of records return: the walk's answer, held to the end of the bytes, and then the
 -- tables' room. The premises have the form in which a proof finds them. Assumes nothing.
 use Prim.Native.Nat.{ℕ, _+_, _/_, _≤_, _<_}
-use mathlib.Core.Path.{_≡_, refl, sym, ap, _∙_}
+use mathlib.Core.Path.{_≡_, sym, ap, _∙_}
 use mathlib.Core.Bool.{Bool, true, false, not}
 use mathlib.Core.List.{List}
 use native.Mathlib.Omega.{arith}
@@ -10,6 +10,7 @@ use lib.Dec.{leb}
 use lib.ListN.{length}
 use Rattle.primitives.specs.declared.Cursor.{Cursor}
 use Rattle.primitives.specs.Pick.{pick}
+use Rattle.primitives.proofs.Picks.{both-hold}
 use Rattle.primitives.specs.Step.{ok, no, mapStep}
 use Rattle.primitives.proofs.Steps.{ok-not-no, map-ok, map-no, times-count}
 use Rattle.records.specs.declared.RecordFault.{RecordFault}
@@ -67,13 +68,8 @@ roomy-is first rs t e =
 pub first-fits : (n m first records headers : ℕ) (b : Bool) → b ≡ pick (leb n (records / 8)) (leb (first + m) (headers / 4)) false
     → not b ≡ false → first ≤ headers / 4
 first-fits n m first records headers b e h =
-    let both = pick-true (leb n (records / 8)) (leb (first + m) (headers / 4)) (sym e ∙ not-false b h) in
+    let (_, both) = both-hold (leb n (records / 8)) (leb (first + m) (headers / 4)) (sym e ∙ not-false b h) in
     omega (arith, leb-true (first + m) (headers / 4) both)
-  where
-    pick-true : (x y : Bool) → pick x y false ≡ true → y ≡ true
-    pick-true true y f = f
-    pick-true false true f = refl
-    pick-true false false f = f
 
 module _ (s : List ℕ) (at count first : ℕ) (t : Tables) where
   due-no-room : {rs : List RecordSpans} {q n m : ℕ} → recordsAt s count at ≡ ok rs q → countsOf rs ≡ record { records = n; headers = m }

@@ -2,12 +2,12 @@
 -- Assumes nothing.
 use Prim.Native.Nat.{ℕ}
 use mathlib.Core.Path.{_≡_, refl, _∙_, subst}
-use mathlib.Core.Bool.{Bool, true, false, false≢true}
+use mathlib.Core.Bool.{true, false, false≢true}
 use mathlib.Core.Option.{Option, none, some}
 use mathlib.Core.List.{List, [], _∷_, _++_}
 use borrow.Author.Tests.{leb-true}
 use lib.Dec.{leb}
-use Rattle.primitives.specs.Pick.{pick}
+use Rattle.primitives.proofs.Picks.{both-hold}
 use Rattle.utf8.specs.Grammar.{Octets}
 use Rattle.utf8.specs.Judgement.{Range, holds, after, goesOn}
 use Rattle.utf8.specs.Statements.{Utf8Sound, Utf8Complete, CharInFront, CharUnambiguous}
@@ -38,13 +38,9 @@ utf8-complete s (Octets.more {c} {s = t} x o) = char-in-front c t x ∙ utf8-com
 data Rest (rs : List Range) : List ℕ → Type 0 where
   rest : {t s : List ℕ} → Fits rs t → Octets s → Rest rs (t ++ s)
 
-both : (x y : Bool) → pick x y false ≡ true → (x ≡ true) × (y ≡ true)
-both true y e = (refl, e)
-both false y e = absurd (false≢true e)
-
 next : (r : Range) (b : ℕ) {rs : List Range} {s : List ℕ} → holds r b ≡ true → Rest rs s → Rest (r ∷ rs) (b ∷ s)
 next r b e (rest f o) =
-    let (h, k) = both (leb (r .first) b) (leb b (r .last)) e in
+    let (h, k) = both-hold (leb (r .first) b) (leb b (r .last)) e in
     rest (more (record { least = leb-true _ _ h; most = leb-true _ _ k }) f) o
 
 begin : {a : ℕ} {rs : List Range} {s : List ℕ} → Row a (some rs) → Rest rs s → Rest [] (a ∷ s)
@@ -61,7 +57,7 @@ sound [] [] e = rest all Octets.none
 sound [] (a ∷ s) e = by-row (after a) s (after-row a) e (λ rs. sound rs s)
 sound (r ∷ rs) [] e = absurd (false≢true e)
 sound (r ∷ rs) (b ∷ s) e =
-    let (h, f) = both (holds r b) (goesOn rs s) e in
+    let (h, f) = both-hold (holds r b) (goesOn rs s) e in
     next r b h (sound rs s f)
 
 none-begun : {s : List ℕ} → Rest [] s → Octets s

@@ -11,6 +11,7 @@ use borrow.Author.Tests.{not-true, not-false, ne-eqb}
 use lib.ListN.{length, getD, drop, length-drop, drop-of-length-le}
 use lib.Seq.{drop-cons}
 use Rattle.primitives.specs.Pick.{pick}
+use Rattle.primitives.proofs.Picks.{second-fails}
 use Rattle.utf8.specs.Judgement.{Range, holds, goesOn}
 use Rattle.utf8.specs.Steps.{Passed, Judged}
 use Rattle.utf8.proofs.Rows.{Row, row-1, row-after}
@@ -37,15 +38,11 @@ module _ {rs : List Range} {s : List ℕ} {at : ℕ} {r : Range} {left : List Ra
   pub fail : {i : ℕ} → i ≤ length s → not t ≡ true → Judged rs s at i 0
   fail k f = record { inside = omega arith; same = x .same ∙ asked r left s now h ∙ rw (← e, not-true t f) }
 
-either-way : (t : Bool) → pick t false false ≡ false
-either-way true = refl
-either-way false = refl
-
 too-few : (rs : List Range) (s : List ℕ) → length s < length rs → goesOn rs s ≡ false
 unfolding goesOn
 too-few [] s h = absurd (omega arith)
 too-few (r ∷ rs) [] h = refl
-too-few (r ∷ rs) (b ∷ s) h = rw (too-few rs s (omega arith)) (either-way (holds r b))
+too-few (r ∷ rs) (b ∷ s) h = rw (too-few rs s (omega arith)) (second-fails (holds r b))
 
 pub cut-off : {rs : List Range} {s : List ℕ} {at i : ℕ} → i ≤ length s → length s - at < length rs → Judged rs s at i 0
 cut-off {rs} {s} {at} h k = record { inside = omega arith; same = too-few rs (drop at s) (omega (arith, length-drop at s)) }
