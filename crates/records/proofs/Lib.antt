@@ -6,6 +6,7 @@ pub mod Nth
 mod Parts
 mod Presence
 pub mod RecordMoves
+pub mod Refusals
 pub mod RunOn
 pub mod Shifted
 pub mod Shows
