@@ -1,0 +1,164 @@
+-- What the check and the reading of a batch return: by what was opened, by its control bit, and by what the marker or the
+-- records say. The premises have the form in which a proof finds them. Assumes nothing.
+use Prim.Native.Nat.{ℕ, _+_, _≤_}
+use mathlib.Core.Path.{_≡_, refl, sym, ap, _∙_, subst}
+use mathlib.Core.Bool.{Bool, true, false}
+use mathlib.Core.List.{List}
+use native.Mathlib.Omega.{arith}
+use lib.ListN.{length, take}
+use Rattle.primitives.specs.declared.Cursor.{Cursor}
+use Rattle.primitives.specs.Step.{Step, ok, no, mapStep}
+use Rattle.primitives.proofs.Steps.{map-ok, map-no}
+use Rattle.records.specs.declared.RecordFault.{RecordFault}
+use Rattle.records.specs.declared.RecordsCheck.{RecordsCheck}
+use Rattle.records.specs.declared.RecordsRead.{RecordsRead}
+use Rattle.records.specs.Judgement.{RecordSpans, recordsAt}
+use Rattle.records.specs.Rows.{Tables}
+use Rattle.records.specs.Answers.{recordNumberOf, Counts, countsOf, viewCheck, viewRead}
+use Rattle.records.specs.Promises.{CheckRecordsPromise, ReadRecordsPromise}
+use Rattle.records.proofs.Refusals.{records-refuses}
+use Rattle.batches.specs.declared.RecordBatch.{RecordBatch}
+use Rattle.batches.specs.declared.ControlBatchRecord.{ControlBatchRecord}
+use Rattle.batches.specs.declared.BatchFault.{BatchFault}
+use Rattle.batches.specs.declared.BatchRead.{BatchRead}
+use Rattle.batches.specs.declared.Opened.{Opened}
+use Rattle.batches.specs.declared.ControlBatchRecordRead.{ControlBatchRecordRead}
+use Rattle.batches.specs.declared.BatchCheck.{BatchCheck}
+use Rattle.batches.specs.Batch.{Fields, Marker, Content, control, records}
+use Rattle.batches.specs.Table.{table}
+use Rattle.batches.specs.Judgement.{Judged, more, refused, accepted, Judgement, numberIn, totalAt, contentAt, bareMarkerAt, judgeAt}
+use Rattle.batches.specs.Answers.{batchNumberOf, ofRecords, ofMarker, accepts, wants, refuses, viewFields, viewMarker, answerWithRoom}
+use Rattle.batches.specs.Answers as Answers
+use Rattle.batches.specs.Promises.{ReadOutcome, ReadBy}
+use Rattle.batches.specs.Opening.{framed, Known, KnownAt, openingAt, knownAt, openBy, openAt, viewOpened, viewMarkerRead, judgedAs, ofRecordsRead}
+use Rattle.batches.proofs.Tests.{Totals, few, low, short, unknown, lacking, there, totals}
+use Rattle.batches.proofs.Judging.{more-not-accepted, refused-not-accepted, judgedFrom, judge-opened}
+use Rattle.batches.proofs.Storing.{reads}
+
+-- ---- all bytes of the batch are there
+
+known-total : (total : ℕ) (x : Step ℕ Known) (o : KnownAt) → knownAt total x ≡ accepted o → total ≡ o .total
+known-total total (ok x p) o e = ap totalOf e
+  where
+    totalOf : Judged KnownAt → ℕ
+    totalOf (more n) = 0
+    totalOf (refused n) = 0
+    totalOf (accepted y) = y .total
+known-total total (no n) o e = refused-not-accepted e
+
+open-within : (s : List ℕ) (at : ℕ) (y : Judged ℕ) (o : KnownAt) → Totals s at y → openBy s at (framed s at y) ≡ accepted o → at + o .total ≤ length s
+open-within s at y o (few h) e = more-not-accepted e
+open-within s at y o (low h b) e = refused-not-accepted e
+open-within s at y o (short h l n g) e = more-not-accepted e
+open-within s at y o (unknown h l n m) e = refused-not-accepted e
+open-within s at y o (lacking h l n m g) e = more-not-accepted e
+open-within s at y o (there {n} h l m g r) e =
+    let opening = openingAt (numberIn (table .baseOffset) s at) (numberIn (table .partitionLeaderEpoch) s at) (take (at + (12 + n)) s) at in
+    omega (arith, known-total (12 + n) opening o e)
+
+-- ---- a marker needs no room
+
+abbrev marked : List ℕ → ℕ → Step ℕ (Content RecordSpans)
+marked s p = mapStep control (bareMarkerAt s p)
+
+marker-needs-no-room : (x : Fields) (first total : ℕ) (t : Tables) (y : Step ℕ Marker) (r : BatchRead)
+    → Answers.viewRead r ≡ answerWithRoom (judgedAs x 0 total (mapStep control y))
+    → ReadBy (judgedAs x first total (mapStep control y)) t (record { result = r; tables = t })
+marker-needs-no-room x first total t (ok m q) r e = record { answer = e; tables = refl }
+marker-needs-no-room x first total t (no n) r e = record { answer = e; tables = refl }
+
+module _ (s : List ℕ) (at : ℕ) (b : RecordBatch) (total : ℕ) (r : ControlBatchRecordRead) (e : viewMarkerRead r ≡ bareMarkerAt s at) where
+  marked-as : (x : ControlBatchRecordRead) → r ≡ x
+      → answerWithRoom (judgedAs (viewFields b) 0 total (mapStep control (viewMarkerRead x))) ≡ answerWithRoom (judgedAs (viewFields b) 0 total (marked s at))
+  marked-as x f =
+      ap (λ (y : Step ℕ Marker). answerWithRoom (judgedAs (viewFields b) 0 total (mapStep control y))) (ap viewMarkerRead (sym f) ∙ e)
+
+  pub marker-got : (m : ControlBatchRecord) (end : Cursor) → r ≡ ControlBatchRecordRead.Got m end
+      → accepts (viewFields b) (ofMarker (viewMarker m)) 0 0 total ≡ answerWithRoom (judgedAs (viewFields b) 0 total (marked s at))
+  marker-got m end f = marked-as (ControlBatchRecordRead.Got m end) f
+
+  pub marker-refused : (h : BatchFault) → r ≡ ControlBatchRecordRead.Refused h
+      → refuses (batchNumberOf h) ≡ answerWithRoom (judgedAs (viewFields b) 0 total (marked s at))
+  marker-refused h f = marked-as (ControlBatchRecordRead.Refused h) f
+
+-- ---- the judgement, by what was opened
+
+by-judgement : {j j′ : Judgement} {t : Tables} {o : ReadOutcome} → j ≡ j′ → ReadBy j t o → ReadBy j′ t o
+by-judgement {t = t} {o = o} e x = subst (λ (j : Judgement). ReadBy j t o) e x
+
+module _ (s : List ℕ) (at : ℕ) (a : Opened) (e : viewOpened a ≡ openAt s at) where
+  judged : (first : ℕ) (x : Opened) → a ≡ x → judgedFrom bareMarkerAt s at first (viewOpened x) ≡ judgeAt s at first
+  judged first x f = ap (judgedFrom bareMarkerAt s at first) (ap viewOpened (sym f) ∙ e) ∙ sym (judge-opened bareMarkerAt s at first)
+
+  pub check-more : (n : ℕ) → a ≡ Opened.MoreBytes n → wants n ≡ answerWithRoom (judgeAt s at 0)
+  check-more n f = ap answerWithRoom (judged 0 (Opened.MoreBytes n) f)
+
+  pub check-refused : (h : BatchFault) → a ≡ Opened.Refused h → refuses (batchNumberOf h) ≡ answerWithRoom (judgeAt s at 0)
+  check-refused h f = ap answerWithRoom (judged 0 (Opened.Refused h) f)
+
+  module _ (first : ℕ) (t : Tables) where
+    pub read-more : (n : ℕ) → a ≡ Opened.MoreBytes n → ReadBy (judgeAt s at first) t (record { result = BatchRead.MoreBytes n; tables = t })
+    read-more n f = by-judgement (judged first (Opened.MoreBytes n) f) (record { answer = refl; tables = refl })
+
+    pub read-refused : (h : BatchFault) → a ≡ Opened.Refused h → ReadBy (judgeAt s at first) t (record { result = BatchRead.Refused h; tables = t })
+    read-refused h f = by-judgement (judged first (Opened.Refused h) f) (record { answer = refl; tables = refl })
+
+  module _ (b : RecordBatch) (c : Bool) (n : ℕ) (next : Cursor) (total : ℕ) (f : a ≡ Opened.Got b c n next total) where
+    pub opened-within : at + total ≤ length s
+    opened-within =
+        open-within s at (totalAt s at) (record { known = record { fields = viewFields b; control = c; count = n }; next = next .at; total = total })
+        (totals s at) (sym e ∙ ap viewOpened f)
+
+    judged-content : (first : ℕ) (y : Step ℕ (Content RecordSpans)) → y ≡ contentAt bareMarkerAt c (take (at + total) s) n (next .at)
+        → judgedAs (viewFields b) first total y ≡ judgeAt s at first
+    judged-content first y g =
+        ap (judgedAs (viewFields b) first total) g
+        ∙ judged first (Opened.Got b c n next total) f
+
+    -- ---- a marker
+
+    module _ (g : c ≡ true) where
+      judged-marker : (first : ℕ) → judgedAs (viewFields b) first total (marked (take (at + total) s) (next .at)) ≡ judgeAt s at first
+      judged-marker first =
+          judged-content first (marked (take (at + total) s) (next .at))
+          (ap (λ (t : Bool). contentAt bareMarkerAt t (take (at + total) s) n (next .at)) (sym g))
+
+      module _ (r : BatchCheck) (m : Answers.viewCheck r ≡ answerWithRoom (judgedAs (viewFields b) 0 total (marked (take (at + total) s) (next .at)))) where
+        pub check-marker : Answers.viewCheck r ≡ answerWithRoom (judgeAt s at 0)
+        check-marker = m ∙ ap answerWithRoom (judged-marker 0)
+
+        pub read-marker : (first : ℕ) (t : Tables) (x : BatchRead) → Answers.viewRead x ≡ Answers.viewCheck r
+            → ReadBy (judgeAt s at first) t (record { result = x; tables = t })
+        read-marker first t x h =
+            by-judgement (judged-marker first)
+            (marker-needs-no-room (viewFields b) first total t (bareMarkerAt (take (at + total) s) (next .at)) x (h ∙ m))
+
+    -- ---- records
+
+    module _ (g : c ≡ false) where
+      judged-records : (first : ℕ) (y : Step ℕ (List RecordSpans)) → recordsAt (take (at + total) s) n (next .at) ≡ y
+          → judgedAs (viewFields b) first total (mapStep records y) ≡ judgeAt s at first
+      judged-records first y h =
+          judged-content first (mapStep records y)
+          (ap (mapStep records) (sym h) ∙ ap (λ (t : Bool). contentAt bareMarkerAt t (take (at + total) s) n (next .at)) (sym g))
+
+      module _ (r : RecordsCheck) (m : CheckRecordsPromise (take (at + total) s) (next .at) n r) where
+        pub check-records-got : (k l q : ℕ) → r ≡ RecordsCheck.Accepted k l q → accepts (viewFields b) ofRecords k l total ≡ answerWithRoom (judgeAt s at 0)
+        check-records-got k l q h =
+            let (rs, reads, is) = map-ok countsOf (recordsAt (take (at + total) s) n (next .at)) (sym m ∙ ap viewCheck h) in
+            ap (λ (x : Counts). accepts (viewFields b) ofRecords (x .records) (x .headers) total) (sym is)
+            ∙ ap answerWithRoom (judged-records 0 (ok rs q) reads)
+
+        pub check-records-refused : (x : RecordFault) → r ≡ RecordsCheck.Refused x → refuses (recordNumberOf x) ≡ answerWithRoom (judgeAt s at 0)
+        check-records-refused x h =
+            ap answerWithRoom
+            (judged-records 0 (no (recordNumberOf x)) (map-no countsOf (recordsAt (take (at + total) s) n (next .at)) (sym m ∙ ap viewCheck h)))
+
+      module _ (first : ℕ) (t t′ : Tables) (r : RecordsRead)
+          (m : ReadRecordsPromise (take (at + total) s) (next .at) n first t (record { result = r; tables = t′ })) where
+        pub read-records-as : (x : BatchRead) → x ≡ ofRecordsRead b total r → ReadBy (judgeAt s at first) t (record { result = x; tables = t′ })
+        read-records-as x h =
+            let w = take (at + total) s in
+            subst (λ (y : BatchRead). ReadBy (judgeAt s at first) t (record { result = y; tables = t′ })) (sym h)
+            (by-judgement (judged-records first (recordsAt w n (next .at)) refl)
+            (reads b first total t t′ (recordsAt w n (next .at)) (records-refuses w n (next .at)) r (m .answer) (m .tables)))

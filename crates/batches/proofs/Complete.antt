@@ -1,0 +1,134 @@
+-- A batch that stands at any place of any list is accepted: each test is met by the part that it is of, and the marker
+-- or the records are read in the batch's own window, where they end with it. Assumes nothing.
+use Prim.Native.Nat.{ℕ, _+_, _≤_}
+use mathlib.Core.Path.{_≡_, refl, sym, ap, _∙_, subst}
+use mathlib.Core.Bool.{Bool, true, false}
+use mathlib.Core.Logic.{_⊎_, inl, inr}
+use mathlib.Core.List.{List}
+use native.Mathlib.Omega.{arith}
+use borrow.Author.Tests.{le-ltb, eq-eqb}
+use lib.IntN.{ℤ, pos}
+use lib.ListN.{length, take}
+use lib.Seq.{length-take-le}
+use Rattle.primitives.specs.Step.{ok}
+use Rattle.primitives.specs.Stands.{Stands}
+use Rattle.primitives.proofs.Places.{first, second}
+use Rattle.primitives.proofs.Integers.{integer-complete}
+use Rattle.primitives.proofs.Windows.{inside}
+use Rattle.crc32c.specs.Crc.{crc32c}
+use Rattle.records.specs.Format.{Record}
+use Rattle.records.proofs.Complete.{records-complete}
+use Rattle.records.proofs.Shows.{records-shows}
+use Rattle.batches.specs.Table.{table}
+use Rattle.batches.specs.Batch.{Marker, abort, commit, Content, control, records, Batch}
+use Rattle.batches.specs.Format.{howMany, Counts, exactly, minusOne, markerType, MarkerBytes, ContentBytes, BatchBytes}
+use Rattle.batches.specs.Judgement.{accepted, Attributes, numberIn, attributesIn, fieldsIn, totalAt, openedAt, contentAt, wholeAt, judgeWith, markerOf, bareMarkerAt, apart}
+use Rattle.batches.specs.Placed.{placedContent, placedBatch, shownContent}
+use Rattle.batches.specs.Statements.{Complete}
+use Rattle.batches.proofs.Apart.{controls, saidBy, attributes-apart}
+use Rattle.batches.proofs.Parts.{parts-stand, fixed-there, counted-enough, ends}
+use Rattle.primitives.proofs.Places.{all-left}
+use Rattle.batches.proofs.Tests.{Says, there, opened, total-is, opening-is}
+
+-- ---- the marker, or the records
+
+marker-again : (m : Marker) (p : ℕ) → markerOf (pos (markerType m)) p ≡ ok m p
+marker-again abort p = refl
+marker-again commit p = refl
+
+marker-reads : {s : List ℕ} {p : ℕ} {bs : List ℕ} {m : Marker} → Stands s p (length s) bs → MarkerBytes bs m
+    → bareMarkerAt s p ≡ ok m (length s)
+unfolding bareMarkerAt
+marker-reads {s} {p} {bs} {m} x g =
+    let y = subst (Stands s p (length s)) (g .is) x in
+    rw (
+      integer-complete 2 s p _ (g .version) (pos 0) (omega arith) (first (g .version) (g .kind) y) (g .versioned),
+      integer-complete 2 s _ (length s) (g .kind) (pos (markerType m)) (omega arith) (second (g .version) (g .kind) y) (g .typed),
+      marker-again m (length s),
+      le-ltb (length s) (length s) (omega arith),
+    )
+
+content-reads : (strict : Bool) {s : List ℕ} {p : ℕ} {bs : List ℕ} (c : Content Record) → Stands s p (length s) bs
+    → (g : ContentBytes strict bs c)
+    → contentAt bareMarkerAt (controls c) s (howMany c) p ≡ ok (placedContent strict bs c p g) (length s)
+content-reads strict (control m) x g = rw (marker-reads x g)
+content-reads strict {s} {p} {bs} (records rs) x g = rw (records-complete strict s p bs rs x g .0)
+
+content-shows : (strict : Bool) {s : List ℕ} {p q : ℕ} {bs : List ℕ} (c : Content Record) → Stands s p q bs → (g : ContentBytes strict bs c)
+    → shownContent s (placedContent strict bs c p g) ≡ c
+content-shows strict (control m) x g = refl
+content-shows strict (records rs) x g = ap records (records-shows x g)
+
+-- ---- the tests before them
+
+says : {strict : Bool} (s : List ℕ) (at : ℕ) {z : ℤ} {n : ℕ} → numberIn (table .count) s at ≡ z → Counts strict z n → Says s at n
+says s at e exactly = inl e
+says s at e minusOne = inr (e, refl)
+
+-- a control batch has one marker
+one-marker : {R : Type 0} (c : Content R) {t : Bool} → t ≡ controls c → ((t ≡ true) × (howMany c ≡ 1)) ⊎ (t ≡ false)
+one-marker (control m) e = inl (e, refl)
+one-marker (records rs) e = inr e
+
+module _ {strict : Bool} {s : List ℕ} {at q : ℕ} {bs : List ℕ} {b : Batch Record} (x : Stands s at q bs) (g : BatchBytes strict bs b) where
+  total-reads : totalAt s at ≡ accepted (length bs)
+  total-reads =
+      let y = parts-stand x g in
+      let magic : at + 17 ≤ length s = omega (arith, fixed-there x g) in
+      let all : at + (12 + length (g .counted)) ≤ length s = omega (arith, ends x g, x .end, x .within) in
+      total-is s at _ (there magic (y .batchLength) (counted-enough x g) (y .magic) all) ∙ ap accepted (ends x g)
+
+  attributes-read : attributesIn s at ≡ saidBy b
+  attributes-read = ap apart (parts-stand x g .attributes) ∙ attributes-apart strict (g .higher) b
+
+  control-read : attributesIn s at .control ≡ controls (b .content)
+  control-read = ap (λ (a : Attributes). a .control) attributes-read
+
+  fields-read : fieldsIn s at ≡ b .fields
+  fields-read =
+      let y = parts-stand x g in
+      λ i.
+      record {
+        baseOffset = y .baseOffset i;
+        partitionLeaderEpoch = y .partitionLeaderEpoch i;
+        lastOffsetDelta = y .lastOffsetDelta i;
+        firstTimestamp = y .firstTimestamp i;
+        maxTimestamp = y .maxTimestamp i;
+        producerId = y .producerId i;
+        producerEpoch = y .producerEpoch i;
+        baseSequence = y .baseSequence i;
+        timestampType = attributes-read i .timestampType;
+        transactional = attributes-read i .transactional;
+      }
+
+  opening-reads : openedAt s at ≡ ok (howMany (b .content)) (at + 61)
+  opening-reads =
+      let y = parts-stand x g in
+      let codec = ap (λ (a : Attributes). a .codec) attributes-read in
+      opening-is s at _
+      (opened (fixed-there x g) codec (says s at (y .count) (g .counts)) (one-marker (b .content) control-read))
+
+-- ---- the batch's own bytes, which end where the list ends
+
+whole-reads : {strict : Bool} {s : List ℕ} {at : ℕ} {bs : List ℕ} {b : Batch Record} (first : ℕ) → Stands s at (length s) bs
+    → (g : BatchBytes strict bs b)
+    → wholeAt bareMarkerAt s at first (length bs) ≡ ok (placedBatch at first g) (length s)
+unfolding wholeAt
+whole-reads {strict} {s} {at} {bs} {b} first x g =
+    let y = parts-stand x g in
+    rw (
+      eq-eqb _ _ (y .crc ∙ ap crc32c (sym (all-left (y .checked)))),
+      opening-reads x g,
+      fields-read x g,
+      control-read x g,
+      content-reads strict (b .content) (y .body) (g .holds),
+    )
+
+pub complete : Complete
+unfolding judgeWith
+complete strict s at first q bs b x g =
+    let e : at + length bs ≡ q = sym (x .end) in
+    let w = length-take-le q s (x .within) in
+    let z : Stands (take q s) at (length (take q s)) bs = rw w (inside q x (omega arith)) in
+    let shows = content-shows strict (b .content) (parts-stand x g .body) (g .holds) in
+    (rw (total-reads x g, e, whole-reads first z g), λ i. record { fields = b .fields; content = shows i })

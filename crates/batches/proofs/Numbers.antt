@@ -1,0 +1,260 @@
+-- Each number is given exactly where document 01 says: a refusal comes from one place, each place refuses by its own
+-- numbers, and those of the marker and of the records are later ones. Assumes nothing.
+use Prim.Native.Nat.{ℕ, _+_, _^_, _≤_, _<_}
+use mathlib.Core.Path.{_≡_, refl, ap, subst, transport, transport⁻¹}
+use mathlib.Core.Bool.{Bool, true, false}
+use mathlib.Core.Logic.{_⊎_, inl, inr}
+use mathlib.Core.List.{List}
+use native.Mathlib.Omega.{arith}
+use native.Mathlib.Nat.{zero-add}
+use borrow.Author.Tests.{ltb-true, lt-ltb, ne-eqb}
+use lib.Dec.{ltb}
+use lib.IntN.{ℤ, pos, negsuc}
+use lib.ListN.{length, take, length-take}
+use Rattle.primitives.specs.Step.{ok, no, andThen}
+use Rattle.primitives.specs.Reading.{signedBy, integerAt}
+use Rattle.records.proofs.Refusals.{Refuses, refusal-within, and-then-refuses, pick-refuses, integer-refuses, records-refuses}
+use Rattle.batches.specs.Table.{Slot, table}
+use Rattle.batches.specs.Batch.{Marker, abort, commit}
+use Rattle.batches.specs.Judgement.{refused, accepted, unsignedIn, numberIn, attributesIn, is, below, Control, contentAt, markerOf, endedAt, bareMarkerAt, judge}
+use Rattle.batches.specs.Answers.{Standing}
+use Rattle.batches.specs.Statements.{Exactly, Within, Refusals, BareMarkerWithin, Whole, sum, Checked, codec, Below, CountIs, CountBelow, Numbers}
+use Rattle.batches.proofs.Tests.{Totals, low, unknown, there, is-false, Openings, no-attributes, unknown-codec, no-fields, low-count, compressed, wrong-count}
+use Rattle.batches.proofs.Refused.{Right, WholeRefusal, differs, unopened, unread, Refusal, unsized, sized, refusal, refused-is, content-no}
+use Rattle.primitives.proofs.Windows.{big-window}
+
+-- ---- the bare marker
+
+marker-of-refuses : (t : ℤ) (p : ℕ) → Refuses (markerOf t p)
+marker-of-refuses t p =
+    pick-refuses (is 0 t) (ok abort p) _ tt (pick-refuses (is 1 t) (ok commit p) (no 12) tt (omega arith, omega arith))
+
+ended-refuses : (s : List ℕ) (m : Marker) (p : ℕ) → Refuses (endedAt s m p)
+ended-refuses s m p = pick-refuses (ltb p (length s)) (no 13) (ok m p) (omega arith, omega arith) tt
+
+bare-marker-refuses : (s : List ℕ) (p : ℕ) → Refuses (bareMarkerAt s p)
+unfolding bareMarkerAt
+bare-marker-refuses s p =
+    and-then-refuses (integerAt 2 s p) _ (integer-refuses 2 s p) (λ version q.
+    pick-refuses (is 0 version) _ (no 12)
+    (and-then-refuses (andThen (integerAt 2 s q) markerOf) (endedAt s)
+    (and-then-refuses (integerAt 2 s q) markerOf (integer-refuses 2 s q) marker-of-refuses) (ended-refuses s)) (omega arith, omega arith))
+
+field-within : {n : ℕ} → (8 ≤ n) × (n ≤ 13) → Standing n
+field-within (f, g) = (omega arith, g)
+
+pub bare-marker-within : BareMarkerWithin
+bare-marker-within s p n e = field-within (refusal-within (bare-marker-refuses s p) e)
+
+-- ---- none but 2 to 13
+
+total-within : {s : List ℕ} {at n : ℕ} → Totals s at (refused n) → Standing n
+total-within (low h e) = (omega arith, omega arith)
+total-within (unknown h e f m) = (omega arith, omega arith)
+
+opening-within : {s : List ℕ} {at n : ℕ} → Openings s at (no n) → Standing n
+opening-within (no-attributes h) = (omega arith, omega arith)
+opening-within (unknown-codec h f) = (omega arith, omega arith)
+opening-within (no-fields h f g) = (omega arith, omega arith)
+opening-within (low-count h f e) = (omega arith, omega arith)
+opening-within (compressed h c f w) = (omega arith, omega arith)
+opening-within (wrong-count h c t w f) = (omega arith, omega arith)
+
+module _ (way : Control) (within : Within way) where
+  whole-within : {s : List ℕ} {at n : ℕ} → WholeRefusal way s at n → Standing n
+  whole-within (differs c) = (omega arith, omega arith)
+  whole-within (unopened c f) = opening-within f
+  whole-within {s} {at} (unread {m} {p} {n} c f g) =
+      elim (content-no way (attributesIn s at .control) s m p g) [
+        | inl e ↦ within s p n e
+        | inr e ↦ field-within (refusal-within (records-refuses s m p) e)
+      ]
+
+  refusal-stands : {s : List ℕ} {at n : ℕ} → Refusal way s at n → Standing n
+  refusal-stands (unsized t) = total-within t
+  refusal-stands (sized t w) = whole-within w
+
+pub refusals : Refusals
+refusals way within s at first n e = refusal-stands way within (refusal way s at first e)
+
+-- ---- the batch's bytes alone say of it what the list says
+
+module _ (s : List ℕ) (n : ℕ) where
+  abbrev window : List ℕ
+  window = take (0 + (12 + n)) s
+
+  unsigned-same : (f : Slot) → f .place + f .bytes ≤ 12 + n → unsignedIn f window 0 ≡ unsignedIn f s 0
+  unsigned-same f h = big-window (f .bytes) (0 + (12 + n)) s (0 + f .place) (omega arith)
+
+  attributes-same : 11 ≤ n → unsignedIn (table .attributes) window 0 ≡ unsignedIn (table .attributes) s 0
+  attributes-same h = unsigned-same (table .attributes) (omega arith)
+
+  count-same : 49 ≤ n → numberIn (table .count) window 0 ≡ numberIn (table .count) s 0
+  count-same h = ap (signedBy (2 ^ 31)) (unsigned-same (table .count) (omega arith))
+
+  right-same : 9 ≤ n → Right window 0 ≡ (unsignedIn (table .crc) s 0 ≡ sum s n)
+  right-same h = rw (unsigned-same (table .crc) (omega arith), zero-add (12 + n))
+
+window-length : {s : List ℕ} {n : ℕ} → Checked s n → length (window s n) ≡ 12 + n
+window-length {s} {n} c = rw (length-take (0 + (12 + n)) s) (omega (arith, c .whole .all-there))
+
+-- ---- numbers 2 to 7
+
+-- length and magic, the checksum, or what is met before the marker or the records
+data Early (s : List ℕ) : ℕ → Type 0 where
+  by-frame : {k : ℕ} → Totals s 0 (refused k) → Early s k
+  by-checksum : {n : ℕ} → Whole s n → (unsignedIn (table .crc) s 0 ≡ sum s n → ⊥) → Early s 4
+  by-fields : {n k : ℕ} → Checked s n → Openings (window s n) 0 (no k) → Early s k
+
+-- the marker and the records refuse by later numbers
+content-late : (t : Bool) (s : List ℕ) (m p : ℕ) {k : ℕ} → contentAt bareMarkerAt t s m p ≡ no k → 8 ≤ k
+content-late t s m p e =
+    elim (content-no bareMarkerAt t s m p e) [
+      | inl f ↦ refusal-within (bare-marker-refuses s p) f .0
+      | inr f ↦ refusal-within (records-refuses s m p) f .0
+    ]
+
+module _ {s : List ℕ} where
+  whole-early : {n k : ℕ} → Whole s n → WholeRefusal bareMarkerAt (window s n) 0 k → k < 8 → Early s k
+  whole-early {n} a (differs c) l = by-checksum a (λ e. c (transport⁻¹ (right-same s n (a .framed .length-enough)) e))
+  whole-early {n} a (unopened c f) l =
+      by-fields (record { whole = a; crc-is = transport (right-same s n (a .framed .length-enough)) c }) f
+  whole-early {n} a (unread {m} {p} c f g) l =
+      absurd (omega (arith, content-late (attributesIn (window s n) 0 .control) (window s n) m p g))
+
+  early : {k : ℕ} → Refusal bareMarkerAt s 0 k → k < 8 → Early s k
+  early (unsized t) l = by-frame t
+  early (sized (there {n} h e f m g) w) l =
+      whole-early
+      (record {
+        framed = record { there = h; length-is = e; length-enough = f; magic-is = m };
+        all-there = omega arith;
+      })
+      w l
+
+  frame : {n : ℕ} → Whole s n → Totals s 0 (accepted (12 + n))
+  frame a =
+      let f = a .framed in there (f .there) (f .length-is) (f .length-enough) (f .magic-is) (omega (arith, a .all-there))
+
+  early-is : {k : ℕ} → Early s k → Refusal bareMarkerAt s 0 k
+  early-is (by-frame t) = unsized t
+  early-is (by-checksum {n} a c) =
+      sized (frame a) (differs (λ e. c (transport (right-same s n (a .framed .length-enough)) e)))
+  early-is (by-fields {n} c f) =
+      sized (frame (c .whole)) (unopened (transport⁻¹ (right-same s n (c .whole .framed .length-enough)) (c .crc-is)) f)
+
+is-not : (n : ℕ) (z : ℤ) → (z ≡ pos n → ⊥) → is n z ≡ false
+is-not n (pos m) f = ne-eqb m n (λ e. f (ap pos e))
+is-not n (negsuc k) f = refl
+
+module _ (s : List ℕ) where
+  below-is : (z : ℤ) → below 9 z ≡ true → Below z 9
+  below-is (pos m) e = ltb-true m 9 e
+  below-is (negsuc k) e = tt
+
+  is-below : (z : ℤ) → Below z 9 → below 9 z ≡ true
+  is-below (pos m) h = lt-ltb m 9 h
+  is-below (negsuc k) h = refl
+
+  not-below : (z : ℤ) → (Below z 9 → ⊥) → (n : ℕ) × (z ≡ pos n) × (9 ≤ n)
+  not-below (pos n) f = (n, refl, omega (arith, f))
+  not-below (negsuc k) f = absurd (f tt)
+
+  -- what document 01 says of each
+
+  abbrev Two : Type 0
+  Two = (12 ≤ length s) × Below (numberIn (table .batchLength) s 0) 9
+
+  abbrev Three : Type 0
+  Three = (17 ≤ length s) × (Below (numberIn (table .batchLength) s 0) 9 → ⊥) × (numberIn (table .magic) s 0 ≡ pos 2 → ⊥)
+
+  abbrev Four : Type 0
+  Four = (n : ℕ) × Whole s n × (unsignedIn (table .crc) s 0 ≡ sum s n → ⊥)
+
+  abbrev Five : Type 0
+  Five = (n : ℕ) × Checked s n × (11 ≤ n) × (5 ≤ codec s)
+
+  abbrev Six : Type 0
+  Six = (n : ℕ) × Checked s n × (49 ≤ n) × (1 ≤ codec s) × (codec s ≤ 4) × ((m : ℕ) × CountIs s m)
+
+  abbrev Seven : Type 0
+  Seven =
+      (n : ℕ) × Checked s n × (49 ≤ n) × (codec s ≤ 4)
+      × (CountBelow s ⊎ ((codec s ≡ 0) × (attributesIn s 0 .control ≡ true) × ((m : ℕ) × CountIs s m × (m ≡ 1 → ⊥))))
+
+  -- each early refusal says it
+
+  two-told : Early s 2 → Two
+  two-told (by-frame (low h e)) = (h, below-is (numberIn (table .batchLength) s 0) e)
+
+  three-told : Early s 3 → Three
+  three-told (by-frame (unknown h e f m)) =
+      (h, λ b. let l = subst (λ z. Below z 9) e b in omega arith, is-false 2 (numberIn (table .magic) s 0) m)
+
+  four-told : Early s 4 → Four
+  four-told (by-checksum {n} a c) = (n, a, c)
+
+  five-told : Early s 5 → Five
+  five-told (by-fields {n} c (unknown-codec h f)) =
+      let l : 11 ≤ n = omega (arith, window-length c) in
+      (n, c, l, rw (attributes-same s n l) at f)
+
+  six-told : Early s 6 → Six
+  six-told (by-fields {n} c (compressed {n = m} h d f w)) =
+      let l : 49 ≤ n = omega (arith, window-length c) in
+      let e = attributes-same s n (omega arith) in
+      (n, c, l, rw e at d, rw e at f, (m, rw (count-same s n l) at w))
+
+  seven-told : Early s 7 → Seven
+  seven-told (by-fields {n} c (low-count {k} h f w)) =
+      let l : 49 ≤ n = omega (arith, window-length c) in
+      (n, c, l, rw (attributes-same s n (omega arith)) at f, inl (k, rw (count-same s n l) at w))
+  seven-told (by-fields {n} c (wrong-count {n = m} h d t w f)) =
+      let l : 49 ≤ n = omega (arith, window-length c) in
+      let e = attributes-same s n (omega arith) in
+      let d′ = rw e at d in
+      (n, c, l, omega (arith, d′), inr (d′, rw e at t, (m, rw (count-same s n l) at w, f)))
+
+  -- and is told by it
+
+  two-early : Two → Early s 2
+  two-early (h, b) = by-frame (low h (is-below (numberIn (table .batchLength) s 0) b))
+
+  three-early : Three → Early s 3
+  three-early (h, b, m) =
+      let (n, e, f) = not-below (numberIn (table .batchLength) s 0) b in
+      by-frame (unknown h e f (is-not 2 (numberIn (table .magic) s 0) m))
+
+  four-early : Four → Early s 4
+  four-early (n, a, c) = by-checksum a c
+
+  five-early : Five → Early s 5
+  five-early (n, c, l, f) =
+      by-fields c (unknown-codec (omega (arith, window-length c)) (rw (attributes-same s n l) f))
+
+  six-early : Six → Early s 6
+  six-early (n, c, l, d, f, (m, w)) =
+      let e = attributes-same s n (omega arith) in
+      by-fields c (compressed {n = m} (omega (arith, window-length c)) (rw e d) (rw e f) (rw (count-same s n l) w))
+
+  seven-early : Seven → Early s 7
+  seven-early (n, c, l, f, inl (k, w)) =
+      let h : 61 ≤ length (window s n) = omega (arith, window-length c) in
+      by-fields c (low-count {k = k} h (rw (attributes-same s n (omega arith)) f) (rw (count-same s n l) w))
+  seven-early (n, c, l, _, inr (d, t, (m, w, f))) =
+      let e = attributes-same s n (omega arith) in
+      by-fields c (wrong-count {n = m} (omega (arith, window-length c)) (rw e d) (rw e t) (rw (count-same s n l) w) f)
+
+exactly : (s : List ℕ) (k : ℕ) {F : Type 0} → k < 8 → (Early s k → F) → (F → Early s k) → Exactly (judge s ≡ refused k) F
+exactly s k l f g = (λ e. f (early (refusal bareMarkerAt s 0 0 e) l), λ x. refused-is bareMarkerAt s 0 0 (early-is (g x)))
+
+pub numbers : Numbers
+numbers s =
+    record {
+      two = exactly s 2 (omega arith) (two-told s) (two-early s);
+      three = exactly s 3 (omega arith) (three-told s) (three-early s);
+      four = exactly s 4 (omega arith) (four-told s) (four-early s);
+      five = exactly s 5 (omega arith) (five-told s) (five-early s);
+      six = exactly s 6 (omega arith) (six-told s) (six-early s);
+      seven = exactly s 7 (omega arith) (seven-told s) (seven-early s);
+    }

@@ -1,0 +1,16 @@
+-- `batches::RecordBatch::total_size` meets its contract. Assumes nothing.
+use Rattle.batches.proofs.Sums.{total-widens, total-fits, total-back}
+use Rattle.batches.proofs.RecordBatch.total_size.Statement.{statement}
+use Rattle.batches.proofs.RecordBatch.total_size.Tie as tie
+
+cast-result : tie.Need-cast-result
+cast-result c = total-widens (c .args .batch-length) (c .fits .batch-length)
+
+add-result : tie.Need-add-result
+add-result c = total-fits (c .args .batch-length) (c .fits .batch-length)
+
+returns : tie.Need-returns
+returns c = total-back (c .args .batch-length) (c .fits .batch-length)
+
+pub total-size-spec : {M : Type 1} → statement M
+total-size-spec = tie.close (tie.spec cast-result add-result returns)

@@ -1,0 +1,175 @@
+-- Each promise admits a single answer: from what the answer says it can be made again, and the tables are given.
+-- Assumes nothing.
+use Prim.Native.Nat.{ℕ}
+use mathlib.Core.Path.{_≡_, refl, sym, ap, _∙_}
+use mathlib.Core.Option.{Option, none, some}
+use mathlib.Core.List.{List}
+use lib.Dec.{eqb}
+use lib.IntN.{ℤ}
+use Rattle.primitives.specs.declared.Fault.the-variants.{PastEnd, BeyondLimits, NegativeLength}
+use Rattle.primitives.specs.Pick.{pick}
+use Rattle.primitives.specs.Single.{Single}
+use Rattle.primitives.proofs.Single.{single-value, single-view}
+use Rattle.records.specs.declared.RecordFault.{RecordFault}
+use Rattle.records.specs.declared.RecordFault.the-variants.{Field, KeyNotUtf8, BytesLeft}
+use Rattle.records.specs.Rows.{Tables}
+use Rattle.batches.specs.declared.RecordBatchTimestampType.{RecordBatchTimestampType}
+use Rattle.batches.specs.declared.RecordBatch.{RecordBatch}
+use Rattle.batches.specs.declared.ControlBatchRecord.{ControlBatchRecord}
+use Rattle.batches.specs.declared.ControlBatchOrRecords.{ControlBatchOrRecords}
+use Rattle.batches.specs.declared.BatchFault.{BatchFault}
+use Rattle.batches.specs.declared.BatchCheck.{BatchCheck}
+use Rattle.batches.specs.declared.BatchRead.{BatchRead}
+use Rattle.batches.specs.declared.RecordTime.{RecordTime}
+use Rattle.batches.specs.Batch.{TimestampType, createTime, logAppendTime, Fields, Marker, abort, commit}
+use Rattle.batches.specs.Judgement.{Judgement, judge}
+use Rattle.batches.specs.Answers.{batchNumberOf, Kind, ofRecords, ofMarker, Answer, viewType, viewFields, viewKind, viewCount, viewCheck, viewRead, viewTime}
+use Rattle.batches.specs.Promises.{BatchNumberPromise, TotalSizePromise, CheckPromise, ReadBy, ReadPromise, RecordTimePromise}
+
+pub single-batch-number : (f : BatchFault) → Single (BatchNumberPromise f)
+single-batch-number f = single-value _
+
+pub single-total-size : (n : ℤ) → Single (TotalSizePromise n)
+single-total-size n = single-value _
+
+-- ---- a fault, made from its number
+
+abbrev recordFault : ℕ → RecordFault
+recordFault n =
+    pick (eqb n 8) (Field PastEnd)
+    (pick (eqb n 9) (Field BeyondLimits)
+    (pick (eqb n 10) (Field NegativeLength)
+    (pick (eqb n 11) KeyNotUtf8 BytesLeft)))
+
+abbrev fault : ℕ → BatchFault
+fault n =
+    pick (eqb n 2) BatchFault.LengthTooSmall
+    (pick (eqb n 3) BatchFault.UnknownMagic
+    (pick (eqb n 4) BatchFault.ChecksumDiffers
+    (pick (eqb n 5) BatchFault.UnknownCodec
+    (pick (eqb n 6) BatchFault.Compressed
+    (pick (eqb n 7) BatchFault.WrongCount
+    (pick (eqb n 12) BatchFault.UnknownControl (BatchFault.Body (recordFault n))))))))
+
+-- the refusal with that number, or what is answered by 1 or by 14
+abbrev refusal : {R : Type 0} → R → R → (BatchFault → R) → ℕ → R
+refusal lacking short refused n = pick (eqb n 1) lacking (pick (eqb n 14) short (refused (fault n)))
+
+refusal-again : {R : Type 0} (lacking short : R) (refused : BatchFault → R) (f : BatchFault)
+    → refusal lacking short refused (batchNumberOf f) ≡ refused f
+refusal-again lacking short refused BatchFault.LengthTooSmall = refl
+refusal-again lacking short refused BatchFault.UnknownMagic = refl
+refusal-again lacking short refused BatchFault.ChecksumDiffers = refl
+refusal-again lacking short refused BatchFault.UnknownCodec = refl
+refusal-again lacking short refused BatchFault.Compressed = refl
+refusal-again lacking short refused BatchFault.WrongCount = refl
+refusal-again lacking short refused BatchFault.UnknownControl = refl
+refusal-again lacking short refused (BatchFault.Body (Field PastEnd)) = refl
+refusal-again lacking short refused (BatchFault.Body (Field BeyondLimits)) = refl
+refusal-again lacking short refused (BatchFault.Body (Field NegativeLength)) = refl
+refusal-again lacking short refused (BatchFault.Body KeyNotUtf8) = refl
+refusal-again lacking short refused (BatchFault.Body BytesLeft) = refl
+
+-- ---- fields and kind, made from what they say
+
+abbrev timestampType : TimestampType → RecordBatchTimestampType
+timestampType createTime = RecordBatchTimestampType.CreateTime
+timestampType logAppendTime = RecordBatchTimestampType.LogAppendTime
+
+type-again : (t : RecordBatchTimestampType) → timestampType (viewType t) ≡ t
+type-again RecordBatchTimestampType.CreateTime = refl
+type-again RecordBatchTimestampType.LogAppendTime = refl
+
+abbrev batchOf : Fields → RecordBatchTimestampType → RecordBatch
+batchOf x t =
+    record {
+      «base_offset» = x .baseOffset;
+      «partition_leader_epoch» = x .partitionLeaderEpoch;
+      «last_offset_delta» = x .lastOffsetDelta;
+      «first_timestamp» = x .firstTimestamp;
+      «max_timestamp» = x .maxTimestamp;
+      «producer_id» = x .producerId;
+      «producer_epoch» = x .producerEpoch;
+      «base_sequence» = x .baseSequence;
+      «is_transactional» = x .transactional;
+      «timestamp_type» = t;
+    }
+
+abbrev batch : Fields → RecordBatch
+batch x = batchOf x (timestampType (x .timestampType))
+
+batch-again : (b : RecordBatch) → batch (viewFields b) ≡ b
+batch-again b = ap (batchOf (viewFields b)) (type-again (b .«timestamp_type»))
+
+abbrev marker : Marker → ControlBatchRecord
+marker abort = ControlBatchRecord.Abort
+marker commit = ControlBatchRecord.Commit
+
+abbrev kind : Kind → ℕ → ControlBatchOrRecords
+kind ofRecords n = ControlBatchOrRecords.Records n
+kind (ofMarker m) n = ControlBatchOrRecords.ControlBatch (marker m)
+
+kind-again : (k : ControlBatchOrRecords) → kind (viewKind k) (viewCount k) ≡ k
+kind-again (ControlBatchOrRecords.ControlBatch ControlBatchRecord.Abort) = refl
+kind-again (ControlBatchOrRecords.ControlBatch ControlBatchRecord.Commit) = refl
+kind-again (ControlBatchOrRecords.Records n) = refl
+
+-- an acceptance where fields and kind are named, or another answer
+abbrev acceptance : {R : Type 0} → (RecordBatch → ControlBatchOrRecords → R) → R → Option Fields → Option Kind → ℕ → R
+acceptance accepted other (some x) (some k) n = accepted (batch x) (kind k n)
+acceptance accepted other (some x) none n = other
+acceptance accepted other none k n = other
+
+-- ---- an answer, made from what it says
+
+abbrev pub check : Answer → BatchCheck
+check a =
+    acceptance (λ b k. BatchCheck.Accepted b k (a .headers) (a .bytes))
+    (refusal (BatchCheck.MoreBytes (a .bytes)) (BatchCheck.MoreBytes (a .bytes)) BatchCheck.Refused (a .number))
+    (a .fields) (a .kind) (a .records)
+
+pub check-again : (r : BatchCheck) → check (viewCheck r) ≡ r
+check-again (BatchCheck.Accepted b k m bytes) = λ i. BatchCheck.Accepted (batch-again b i) (kind-again k i) m bytes
+check-again (BatchCheck.MoreBytes bytes) = refl
+check-again (BatchCheck.Refused f) = refusal-again _ _ BatchCheck.Refused f
+
+abbrev pub read : Answer → BatchRead
+read a =
+    acceptance (λ b k. BatchRead.Accepted b k (a .headers) (a .bytes))
+    (refusal (BatchRead.MoreBytes (a .bytes)) (BatchRead.NoRoom (a .records) (a .headers)) BatchRead.Refused (a .number))
+    (a .fields) (a .kind) (a .records)
+
+pub read-again : (r : BatchRead) → read (viewRead r) ≡ r
+read-again (BatchRead.Accepted b k m bytes) = λ i. BatchRead.Accepted (batch-again b i) (kind-again k i) m bytes
+read-again (BatchRead.MoreBytes bytes) = refl
+read-again (BatchRead.Refused f) = refusal-again _ _ BatchRead.Refused f
+read-again (BatchRead.NoRoom n m) = refl
+
+-- answers that say the same are the same
+pub view-check-injective : (r r′ : BatchCheck) → viewCheck r ≡ viewCheck r′ → r ≡ r′
+view-check-injective r r′ e = single-view viewCheck check check-again (viewCheck r′) r r′ e refl
+
+pub view-read-injective : (r r′ : BatchRead) → viewRead r ≡ viewRead r′ → r ≡ r′
+view-read-injective r r′ e = single-view viewRead read read-again (viewRead r′) r r′ e refl
+
+-- ---- the promises
+
+pub single-check : (s : List ℕ) → Single (CheckPromise s)
+single-check s r r′ e e′ = view-check-injective r r′ (e ∙ sym e′)
+
+pub single-read-by : (j : Judgement) (t : Tables) → Single (ReadBy j t)
+single-read-by j t o o′ e e′ =
+    let p = view-read-injective (o .result) (o′ .result) (e .answer ∙ sym (e′ .answer)) in
+    let q = single-value _ (o .tables) (o′ .tables) (e .tables) (e′ .tables) in
+    λ i. record { result = p i; tables = q i }
+
+pub single-read : (s : List ℕ) (t : Tables) → Single (ReadPromise s t)
+single-read s t = single-read-by (judge s) t
+
+abbrev time : Option ℤ → RecordTime
+time (some t) = RecordTime.Time t
+time none = RecordTime.NoTime
+
+pub single-record-time : (b : RecordBatch) (delta : ℤ) → Single (RecordTimePromise b delta)
+single-record-time b delta =
+    single-view viewTime time (λ r. elim r [ RecordTime.Time t ↦ refl | RecordTime.NoTime ↦ refl ]) _

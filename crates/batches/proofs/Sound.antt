@@ -1,0 +1,226 @@
+-- Each test that an accepted batch has passed is one of the format's conditions, over the bytes that stand there: the
+-- batch's own bytes end with its window, so what is left of the window is what is counted, and what is checked.
+-- Assumes nothing.
+use Prim.Native.Nat.{ℕ, _+_, _-_, _*_, _/_, _^_, _≤_, _<_}
+use mathlib.Core.Path.{_≡_, refl, sym, ap, _∙_, subst, subst₂}
+use mathlib.Core.Bool.{Bool, true, false}
+use mathlib.Core.Logic.{_⊎_, inl, inr}
+use mathlib.Core.List.{List, _++_}
+use native.Mathlib.Omega.{arith}
+use borrow.Author.Tests.{ltb-false}
+use lib.Dec.{ltb}
+use lib.IntN.{ℤ, pos}
+use lib.ListN.{length, take, length-map}
+use lib.Seq.{length-take-le}
+use Rattle.primitives.specs.Bytes.{Bytes}
+use Rattle.primitives.specs.Pick.{pick}
+use Rattle.primitives.specs.Step.{ok, no, andThen}
+use Rattle.primitives.specs.Stands.{Stands, Encoding}
+use Rattle.primitives.specs.Format.{Unsigned, Integer}
+use Rattle.primitives.specs.Reading.{signedBy, integerAt}
+use Rattle.primitives.proofs.Steps.{ok-not-no, and-then-ok, map-ok}
+use Rattle.primitives.proofs.Places.{joined}
+use Rattle.primitives.proofs.Integers.{integer-sound}
+use Rattle.primitives.proofs.Windows.{outside, window-bytes}
+use Rattle.crc32c.specs.Crc.{crc32c}
+use Rattle.records.specs.Format.{Record}
+use Rattle.records.specs.Judgement.{RecordSpans, recordsAt}
+use Rattle.records.specs.Placed.{shownRecord}
+use Rattle.records.proofs.Shows.{records-shows}
+use Rattle.records.proofs.Sound.{records-sound}
+use Rattle.batches.specs.Table.{Slot, table, uncountedFields, uncheckedFields, checkedFields}
+use Rattle.batches.specs.Batch.{Marker, abort, commit, Content, control, records, Batch}
+use Rattle.batches.specs.Format.{concat, bit, controlBit, howMany, Counts, markerType, MarkerBytes, ContentBytes, BatchBytes}
+use Rattle.batches.specs.Judgement.{Accepted, unsignedIn, numberIn, attributesIn, fieldsIn, is, contentAt, markerOf, endedAt, bareMarkerAt}
+use Rattle.batches.specs.Placed.{placedContent, placedBatch, shownContent, shownBatch}
+use Rattle.batches.specs.Statements.{Sound}
+use Rattle.batches.proofs.Bits.{together}
+use Rattle.primitives.proofs.Windows.{big-window}
+use Rattle.primitives.proofs.Places.{all-left}
+use Rattle.batches.proofs.Passed.{Read, whole, passed}
+use Rattle.primitives.proofs.Picks.{picked, passed-over}
+use Rattle.batches.proofs.Pieces.{piece, pieces, piece-unsigned, piece-integer, uncounted-stand, unchecked-stand, checked-stand}
+use Rattle.batches.proofs.Tests.{Says, is-true}
+
+-- ---- a control batch's marker
+
+type-read : (z : ℤ) {m : Marker} {p q : ℕ} (a c : Bool) → is 0 z ≡ a → is 1 z ≡ c → pick a (ok abort p) (pick c (ok commit p) (no 12)) ≡ ok m q
+    → (z ≡ pos (markerType m)) × (p ≡ q)
+type-read z {m} true c f g e = let w : abort ≡ m = cc in (is-true 0 z f ∙ ap (λ (m : Marker). pos (markerType m)) w, cc)
+type-read z {m} false true f g e = let w : commit ≡ m = cc in (is-true 1 z g ∙ ap (λ (m : Marker). pos (markerType m)) w, cc)
+type-read z false false f g e = ok-not-no (sym e)
+
+ended-read : (s : List ℕ) {m k : Marker} {p q : ℕ} → endedAt s k p ≡ ok m q → (length s ≤ q) × (k ≡ m) × (p ≡ q)
+ended-read s {m} {k} {p} {q} e =
+    let (t, i) = passed-over (ltb p (length s)) (ok k p) 13 e in
+    let w : p ≡ q = cc in
+    (rw (← w) (ltb-false p (length s) t), cc, w)
+
+module _ (s : List ℕ) (b : Bytes s) where
+  sixteen : {p q : ℕ} {z : ℤ} → integerAt 2 s p ≡ ok z q → Encoding (Integer 2) s p q z
+  sixteen {p} {q} {z} e = integer-sound 2 s p z q (omega arith) b e
+
+  marker-joined : {p k q : ℕ} {m : Marker} → Encoding (Integer 2) s p k (pos 0) → Encoding (Integer 2) s k q (pos (markerType m))
+      → Encoding MarkerBytes s p q m
+  marker-joined x y =
+      record {
+        bytes = x .bytes ++ y .bytes;
+        stands = joined (x .stands) (y .stands);
+        encodes = record { version = x .bytes; kind = y .bytes; is = refl; versioned = x .encodes; typed = y .encodes };
+      }
+
+  marker-sound : (p : ℕ) (m : Marker) (q : ℕ) → bareMarkerAt s p ≡ ok m q → Encoding MarkerBytes s p q m × (q ≡ length s)
+  unfolding bareMarkerAt
+  marker-sound p m q e =
+      let (v, k, i, j) = and-then-ok (integerAt 2 s p) _ e in
+      let (t, l) = picked (is 0 v) _ 12 j in
+      let (_, _, f, g) = and-then-ok (andThen (integerAt 2 s k) markerOf) (endedAt s) l in
+      let (z, _, c, d) = and-then-ok (integerAt 2 s k) markerOf f in
+      let (u, w) = type-read z (is 0 z) (is 1 z) refl refl d in
+      let (h, a, o) = ended-read s g in
+      let version = subst (Encoding (Integer 2) s p k) (is-true 0 v t) (sixteen i) in
+      let kind = subst₂ (λ (r : ℕ) (n : ℤ). Encoding (Integer 2) s k r n) (w ∙ o) (u ∙ ap (λ (y : Marker). pos (markerType y)) a) (sixteen c) in
+      let y = marker-joined version kind in
+      (y, omega (arith, h, y .stands .within))
+
+-- ---- the marker, or the records
+
+-- an encoding of v stands from p up to the list's end, c is where its parts stand, and its kind and number are as told
+record Found (s : List ℕ) (isControl : Bool) (n p : ℕ) (c : Content RecordSpans) (v : Content Record) : Type 0 where
+  bytes : List ℕ
+  stands : Stands s p (length s) bytes
+  encodes : ContentBytes false bytes v
+  placed : c ≡ placedContent false bytes v p encodes
+  kind : bit isControl ≡ controlBit v
+  many : n ≡ howMany v
+
+content-found : (s : List ℕ) → Bytes s → (isControl : Bool) (n p : ℕ) (c : Content RecordSpans) (q : ℕ) → contentAt bareMarkerAt isControl s n p ≡ ok c q
+    → ((isControl ≡ true) × (n ≡ 1)) ⊎ (isControl ≡ false) → Found s isControl n p c (shownContent s c)
+content-found s b true n p c q e o =
+    let (m, i, w) = map-ok control (bareMarkerAt s p) e in
+    let (x, l) = marker-sound s b p m q i in
+    subst (λ (c : Content RecordSpans). Found s true n p c (shownContent s c)) w
+    (record {
+      bytes = x .bytes;
+      stands = subst (λ (q : ℕ). Stands s p q (x .bytes)) l (x .stands);
+      encodes = x .encodes;
+      placed = refl;
+      kind = refl;
+      many = elim o [ inl (_, h) ↦ h | inr f ↦ cc ];
+    })
+content-found s b false n p c q e o =
+    let (rs, i, w) = map-ok records (recordsAt s n p) e in
+    let (x, v, m, l) = records-sound s n p rs q b i in
+    subst (λ (c : Content RecordSpans). Found s false n p c (shownContent s c)) w
+    (record {
+      bytes = x .bytes;
+      stands = subst (λ (q : ℕ). Stands s p q (x .bytes)) l (x .stands);
+      encodes = x .encodes;
+      placed = ap records v;
+      kind = refl;
+      many = sym (length-map rs (shownRecord s) ∙ m);
+    })
+
+-- what parts show where they stand
+content-shows : (strict : Bool) {s : List ℕ} {p q : ℕ} {bs : List ℕ} (v : Content Record) → Stands s p q bs → (g : ContentBytes strict bs v)
+    → shownContent s (placedContent strict bs v p g) ≡ v
+content-shows strict (control m) x g = refl
+content-shows strict (records rs) x g = ap records (records-shows x g)
+
+-- a window shows what the list shows
+found-outside : (s : List ℕ) (e : ℕ) {isControl : Bool} {n p : ℕ} {c : Content RecordSpans} {v : Content Record}
+    → Found (take e s) isControl n p c v → Found (take e s) isControl n p c (shownContent s c)
+found-outside s e {isControl} {n} {p} {c} {v} f =
+    subst (Found (take e s) isControl n p c)
+    (sym (content-shows false v (outside e (f .stands)) (f .encodes)) ∙ ap (shownContent s) (sym (f .placed))) f
+
+-- ---- the batch, in its window w
+
+counts-said : (w : List ℕ) (at : ℕ) {n : ℕ} → Says w at n → Counts false (numberIn (table .count) w at) n
+counts-said w at (inl e) = rw e Counts.exactly
+counts-said w at (inr (e, f)) = rw (e, f) Counts.minusOne
+
+module _ (w : List ℕ) (at n first : ℕ) (b : Bytes w) (l : length w ≡ at + (12 + n)) (length-is : numberIn (table .batchLength) w at ≡ pos n)
+    (magic-is : numberIn (table .magic) w at ≡ pos 2) {c : Content RecordSpans} {v : Content Record} (r : Read bareMarkerAt w at c)
+    (f : Found w (attributesIn w at .control) (r .count) (at + 61) c v) where
+  abbrev checked : List ℕ
+  checked = concat (checkedFields (pieces w at)) ++ f .bytes
+
+  checked-stands : Stands w (at + 21) (length w) checked
+  checked-stands = joined (checked-stand w at b (r .fixed)) (f .stands)
+
+  abbrev counted : List ℕ
+  counted = concat (uncheckedFields (pieces w at)) ++ checked
+
+  counted-stands : Stands w (at + 12) (length w) counted
+  counted-stands = joined (unchecked-stand w at b (r .fixed)) checked-stands
+
+  number : (x : Slot) → x .place + x .bytes ≤ 61 → 0 < x .bytes → Integer (x .bytes) (piece w at x) (numberIn x w at)
+  number x h k = piece-integer w at b x (omega (arith, r .fixed)) k
+
+  abbrev value : Batch Record
+  value = record { fields = fieldsIn w at; content = v }
+
+  batch-bytes : BatchBytes false (concat (uncountedFields (pieces w at)) ++ counted) value
+  batch-bytes =
+      record {
+        part = pieces w at;
+        body = f .bytes;
+        checked = checked;
+        counted = counted;
+        higher = unsignedIn (table .attributes) w at / 64;
+        count = numberIn (table .count) w at;
+        is = refl;
+        countedIs = refl;
+        checkedIs = refl;
+        baseOffset = number (table .baseOffset) (omega arith) (omega arith);
+        batchLength =
+            subst (Integer 4 (pieces w at .batchLength)) (length-is ∙ ap pos (omega (arith, l, counted-stands .end)))
+            (number (table .batchLength) (omega arith) (omega arith));
+        partitionLeaderEpoch = number (table .partitionLeaderEpoch) (omega arith) (omega arith);
+        magic = subst (Integer 1 (pieces w at .magic)) magic-is (number (table .magic) (omega arith) (omega arith));
+        crc =
+            subst (Unsigned 4 (pieces w at .crc)) (r .crc ∙ ap crc32c (all-left checked-stands))
+            (piece-unsigned w at b (table .crc) (omega (arith, r .fixed)));
+        attributes =
+            subst (Unsigned 2 (pieces w at .attributes)) (omega (arith, together (unsignedIn (table .attributes) w at) (r .codec), f .kind))
+            (piece-unsigned w at b (table .attributes) (omega (arith, r .fixed)));
+        lastOffsetDelta = number (table .lastOffsetDelta) (omega arith) (omega arith);
+        firstTimestamp = number (table .firstTimestamp) (omega arith) (omega arith);
+        maxTimestamp = number (table .maxTimestamp) (omega arith) (omega arith);
+        producerId = number (table .producerId) (omega arith) (omega arith);
+        producerEpoch = number (table .producerEpoch) (omega arith) (omega arith);
+        baseSequence = number (table .baseSequence) (omega arith) (omega arith);
+        numbered = number (table .count) (omega arith) (omega arith);
+        counts = rw (← f .many) (counts-said w at (r .says));
+        holds = f .encodes;
+      }
+
+  batch-found : (e : Encoding (BatchBytes false) w at (length w) value) × (whole bareMarkerAt w at first (12 + n) c ≡ placedBatch at first (e .encodes))
+  unfolding batch-bytes
+  batch-found =
+      let x = joined (uncounted-stand w at b (r .fixed)) counted-stands in
+      let k : 12 + n ≡ length (concat (uncountedFields (pieces w at)) ++ counted) = omega (arith, l, x .end) in (
+        record { bytes = concat (uncountedFields (pieces w at)) ++ counted; stands = x; encodes = batch-bytes },
+        λ i. record { fields = fieldsIn w at; content = f .placed i; firstHeader = first; consumed = k i },
+      )
+
+-- ---- and in the list
+
+number-cut : (x : Slot) (e : ℕ) (s : List ℕ) (at : ℕ) → at + x .place + x .bytes ≤ e → numberIn x (take e s) at ≡ numberIn x s at
+number-cut x e s at h = ap (signedBy (2 ^ (8 * x .bytes - 1))) (big-window (x .bytes) e s (at + x .place) h)
+
+pub sound : Sound
+sound s at first b bytes j =
+    let p = passed bareMarkerAt s at first b j in
+    let r = p .read in
+    let e = at + (12 + p .size) in
+    let w = take e s in
+    let l : length w ≡ e = length-take-le e s (p .all-there) in
+    let cut : (x : Slot) → x .place + x .bytes ≤ 61 → numberIn x w at ≡ numberIn x s at = λ x h. number-cut x e s at (omega (arith, l, r .fixed)) in
+    let f = content-found w (window-bytes e s bytes) (attributesIn w at .control) (r .count) (at + 61) (p .content) (r .end) (r .reads) (r .one) in
+    let (x, y) = batch-found w at (p .size) first (window-bytes e s bytes) l
+    (cut (table .batchLength) (omega arith) ∙ p .batchLength) (cut (table .magic) (omega arith) ∙ p .magic) r (found-outside s e f) in
+    subst (λ (b : Accepted). (e : Encoding (BatchBytes false) s at (at + b .consumed) (shownBatch s b)) × (b ≡ placedBatch at first (e .encodes)))
+    (sym (p .is))
+    (record { bytes = x .bytes; stands = outside e (subst (λ (q : ℕ). Stands w at q (x .bytes)) l (x .stands)); encodes = x .encodes }, y)

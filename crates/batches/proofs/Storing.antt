@@ -1,0 +1,83 @@
+-- What the reading of a batch's records returns and leaves in the tables: records' promise, by its answer, is the
+-- batch's. Assumes nothing.
+use Prim.Native.Nat.{ℕ, _≤_}
+use mathlib.Core.Path.{_≡_, refl, sym, ap, _∙_}
+use mathlib.Core.Bool.{Bool, true, false}
+use mathlib.Core.List.{List}
+use native.Mathlib.Omega.{arith}
+use lib.ListN.{length}
+use Rattle.primitives.specs.Pick.{pick}
+use Rattle.primitives.specs.Step.{Step, ok, no, mapStep}
+use Rattle.primitives.specs.declared.Fault.{Fault}
+use Rattle.records.specs.declared.RecordFault.{RecordFault}
+use Rattle.records.specs.declared.RecordsRead.{RecordsRead}
+use Rattle.records.specs.Judgement.{RecordSpans}
+use Rattle.records.specs.Rows.{headersIn, Tables, roomy, withRows}
+use Rattle.records.specs.Answers.{recordNumberOf, countsOf}
+use Rattle.records.specs.Answers as Records
+use Rattle.records.specs.Promises.{answerDue, tablesDue}
+use Rattle.records.proofs.Refusals.{Refuses}
+use Rattle.batches.specs.declared.RecordBatch.{RecordBatch}
+use Rattle.batches.specs.Batch.{records}
+use Rattle.batches.specs.Judgement.{Judgement}
+use Rattle.batches.specs.Answers.{ofRecords, accepts, refuses, lacksRoom, viewFields, roomsOf, hasRoom, answerOf, tablesOf}
+use Rattle.batches.specs.Promises.{ReadBy}
+use Rattle.batches.specs.Opening.{judgedAs, ofRecordsRead}
+
+room-is : (first : ℕ) (rs : List RecordSpans) (t : Tables) → hasRoom (records rs) first (roomsOf t) ≡ roomy first rs t
+unfolding roomy
+room-is first rs t = refl
+
+-- 0, 14 and the refusals are told apart by their numbers
+numbers : {a b : Records.Answer} → a ≡ b → a .number ≡ b .number
+numbers e = ap (λ (x : Records.Answer). x .number) e
+
+counts : {a b : Records.Answer} → a ≡ b → (a .records ≡ b .records) × (a .headers ≡ b .headers)
+counts e = (ap (λ (x : Records.Answer). x .records) e, ap (λ (x : Records.Answer). x .headers) e)
+
+least : (f : RecordFault) → (8 ≤ recordNumberOf f) × (recordNumberOf f ≤ 13)
+least (RecordFault.Field Fault.PastEnd) = (omega arith, omega arith)
+least (RecordFault.Field Fault.BeyondLimits) = (omega arith, omega arith)
+least (RecordFault.Field Fault.NegativeLength) = (omega arith, omega arith)
+least RecordFault.KeyNotUtf8 = (omega arith, omega arith)
+least RecordFault.BytesLeft = (omega arith, omega arith)
+
+module _ (b : RecordBatch) (first total : ℕ) (t t′ : Tables) where
+  abbrev pub judged : Step ℕ (List RecordSpans) → Judgement
+  judged y = judgedAs (viewFields b) first total (mapStep records y)
+
+  -- by whether there is room
+  module _ (rs : List RecordSpans) (p : ℕ) where
+    roomed : (z : Bool) → roomy first rs t ≡ z → t′ ≡ pick z (withRows first rs t) t → tablesOf (judged (ok rs p)) t ≡ t′
+    roomed z e f = ap (λ (x : Bool). pick x (withRows first rs t) t) (room-is first rs t ∙ e) ∙ sym f
+
+    answered : (z : Bool) → roomy first rs t ≡ z
+        → answerOf (judged (ok rs p)) (roomsOf t) ≡ pick z (accepts (viewFields b) ofRecords (length rs) (headersIn rs) total) (lacksRoom (length rs) (headersIn rs))
+    answered z e =
+        ap (λ (x : Bool). pick x (accepts (viewFields b) ofRecords (length rs) (headersIn rs) total) (lacksRoom (length rs) (headersIn rs))) (room-is first rs t ∙ e)
+
+    read-ok : (z : Bool) → roomy first rs t ≡ z → (r : RecordsRead)
+        → Records.viewRead r ≡ pick z (Records.accepted (countsOf rs) p) (Records.noRoom (countsOf rs)) → t′ ≡ pick z (withRows first rs t) t
+        → ReadBy (judged (ok rs p)) t (record { result = ofRecordsRead b total r; tables = t′ })
+    read-ok true e (RecordsRead.Accepted k l q) f g =
+        record {
+          answer = (λ i. accepts (viewFields b) ofRecords (counts f .0 i) (counts f .1 i) total) ∙ sym (answered true e);
+          tables = sym (roomed true e g);
+        }
+    read-ok false e (RecordsRead.NoRoom k l) f g =
+        record { answer = (λ i. lacksRoom (counts f .0 i) (counts f .1 i)) ∙ sym (answered false e); tables = sym (roomed false e g) }
+    read-ok true e (RecordsRead.NoRoom k l) f g = absurd (omega (arith, numbers f))
+    read-ok false e (RecordsRead.Accepted k l q) f g = absurd (omega (arith, numbers f))
+    read-ok true e (RecordsRead.Refused x) f g = absurd (omega (arith, numbers f, least x))
+    read-ok false e (RecordsRead.Refused x) f g = absurd (omega (arith, numbers f, least x))
+
+  read-no : (n : ℕ) → 8 ≤ n → n ≤ 13 → (r : RecordsRead) → Records.viewRead r ≡ Records.refused n → t′ ≡ t
+      → ReadBy (judged (no n)) t (record { result = ofRecordsRead b total r; tables = t′ })
+  read-no n h h′ (RecordsRead.Accepted k l q) f g = absurd (omega (arith, numbers f))
+  read-no n h h′ (RecordsRead.Refused x) f g = record { answer = ap refuses (numbers f); tables = g }
+  read-no n h h′ (RecordsRead.NoRoom k l) f g = absurd (omega (arith, numbers f))
+
+  pub reads : (y : Step ℕ (List RecordSpans)) → Refuses y → (r : RecordsRead) → Records.viewRead r ≡ answerDue first t y → t′ ≡ tablesDue first t y
+      → ReadBy (judged y) t (record { result = ofRecordsRead b total r; tables = t′ })
+  reads (ok rs p) h r f g = read-ok rs p (roomy first rs t) refl r f g
+  reads (no n) h r f g = read-no n (h .0) (h .1) r f g

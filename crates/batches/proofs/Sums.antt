@@ -1,0 +1,160 @@
+-- Sums of signed numbers as the machine makes them: where they fit, and what they then are. By cases on the signs.
+-- Assumes nothing.
+use Prim.Native.Nat.{ℕ, zero, suc, _+_, _-_, _<_, _≤_, _^_}
+use mathlib.Core.Path.{_≡_, refl, sym, ap, _∙_, subst, subst⁻¹}
+use mathlib.Core.Bool.{Bool, true, false, not}
+use mathlib.Core.Option.{none, some}
+use native.Mathlib.Omega.{arith}
+use native.Mathlib.Decide.{decLt}
+use borrow.Author.Tests.{ltb-true, leb-false, lt-ltb, le-ltb, le-leb, lt-leb, not-true, not-false}
+use lib.Dec.{T, leb, ltb}
+use lib.IntN.{ℤ, pos, negsuc, subℕ, _+ℤ_, _-ℤ_, natAbs}
+use lib.Signed.{mag, leZ, nonNeg}
+use mir.Syntax.{w32, w64}
+use mir.Val.{SFits, Fits, toZ, ofZ}
+use mir.ValLaws.{toZ-ofZ}
+use Rattle.primitives.specs.Pick.{pick}
+use Rattle.primitives.proofs.Signs.{widen-fits, widen-back}
+use Rattle.batches.specs.Table.{uncounted}
+use Rattle.batches.specs.Batch.{Fields}
+use Rattle.batches.specs.Time.{in64, recordTime}
+
+-- ---- 12 and batchLength
+
+sum-fits : (n : ℤ) → SFits w32 n → SFits w64 (pos uncounted +ℤ n)
+sum-fits (pos m) f = record { sfits = omega (arith, f .sfits) }
+sum-fits (negsuc k) f =
+    elim (decLt 12 (suc k)) [
+      | yes h ↦ rw (lt-ltb 12 (suc k) h) (record { sfits = omega (arith, f .sfits) })
+      | no h ↦ rw (le-ltb 12 (suc k) (omega arith)) (record { sfits = omega (arith, f .sfits) })
+    ]
+
+module _ (n : ℤ) (f : SFits w32 n) where
+  wide-is : toZ w64 (ofZ w64 (toZ w32 (ofZ w32 n))) ≡ n
+  wide-is = widen-back w32 w64 n (omega arith) f
+
+  pub total-widens : SFits w64 (toZ w32 (ofZ w32 n))
+  total-widens = widen-fits w32 w64 n (omega arith) f
+
+  pub total-fits : SFits w64 (pos uncounted +ℤ toZ w64 (ofZ w64 (toZ w32 (ofZ w32 n))))
+  total-fits = rw wide-is (sum-fits n f)
+
+  pub total-back : toZ w64 (ofZ w64 (pos uncounted +ℤ toZ w64 (ofZ w64 (toZ w32 (ofZ w32 n))))) ≡ pos uncounted +ℤ n
+  total-back = rw wide-is (toZ-ofZ w64 (pos uncounted +ℤ n) (sum-fits n f))
+
+-- the sum is a natural number where batchLength is one
+pub record Natural (y : ℤ) (n : ℕ) : Type 0 where
+  pub nonneg : T (nonNeg y)
+  pub fits : Fits w64 (natAbs y)
+  pub is : natAbs y ≡ n
+
+pub total-natural : (z : ℤ) → SFits w32 z → (n : ℕ) → z ≡ pos n → (r : ℤ) → r ≡ pos uncounted +ℤ toZ w32 (ofZ w32 z)
+    → Natural (toZ w64 (ofZ w64 r)) (12 + n)
+total-natural z f n e r g =
+    let bound : n < 2 ^ 31 = subst (λ (y : ℤ). mag y < 2 ^ 31) e (f .sfits) in
+    let sum : r ≡ pos (12 + n) = g ∙ ap (λ (y : ℤ). pos uncounted +ℤ y) (toZ-ofZ w32 z f ∙ e) in
+    let back : toZ w64 (ofZ w64 (pos (12 + n))) ≡ pos (12 + n) = toZ-ofZ w64 (pos (12 + n)) (record { sfits = omega arith }) in
+    subst⁻¹ (λ (y : ℤ). Natural y (12 + n)) (ap (λ (y : ℤ). toZ w64 (ofZ w64 y)) sum ∙ back)
+    (record { nonneg = tt; fits = record { fits = omega arith }; is = refl })
+
+-- ---- a sum of two numbers of 64 bits
+
+same-test : (a b c d : ℕ) → (a ≤ b → c < d) → (c < d → a ≤ b) → leb a b ≡ ltb c d
+same-test a b c d f g =
+    elim (decLt c d) [
+      | yes h ↦ le-leb a b (g h) ∙ sym (lt-ltb c d h)
+      | no h ↦ lt-leb a b (elim (decLt b a) [ yes i ↦ i | no i ↦ absurd (h (f (omega arith))) ]) ∙ sym (le-ltb c d (omega arith))
+    ]
+
+-- a difference of natural numbers that is of 64 bits
+between : (a b : ℕ) → a < 2 ^ 63 + b → b ≤ 2 ^ 63 → in64 (subℕ a b) ≡ true
+between a b h g =
+    elim (decLt a b) [
+      | yes l ↦ rw (lt-ltb a b l) (lt-ltb (b - suc a) (2 ^ 63) (omega arith))
+      | no l ↦ rw (le-ltb a b (omega arith)) (lt-ltb (a - b) (2 ^ 63) (omega arith))
+    ]
+
+-- what a sum with b may be at most, where b is not negative; and at least, where it is
+up : (m : ℕ) → m < 2 ^ 63 → pos 9223372036854775807 -ℤ pos m ≡ pos (9223372036854775807 - m)
+up zero h = refl
+up (suc m) h = rw (le-ltb 9223372036854775807 (suc m) (omega arith))
+
+fits-up : (a : ℤ) (m : ℕ) → SFits w64 a → m < 2 ^ 63 → leZ a (pos (9223372036854775807 - m)) ≡ in64 (a +ℤ pos m)
+fits-up (pos n) m f h = same-test n (9223372036854775807 - m) (n + m) (2 ^ 63) (λ l. omega arith) (λ l. omega arith)
+fits-up (negsuc j) m f h = sym (between m (suc j) (omega arith) (omega (arith, f .sfits)))
+
+fits-down : (a : ℤ) (k : ℕ) → SFits w64 a → k < 2 ^ 63 → leZ (subℕ (suc k) (suc 9223372036854775807)) a ≡ in64 (a +ℤ negsuc k)
+fits-down a k f h =
+    elim (decLt (suc k) (suc 9223372036854775807)) [
+      | yes l ↦ rw (lt-ltb (suc k) (suc 9223372036854775807) l) (from-below a k f h l)
+      | no l ↦ rw (le-ltb (suc k) (suc 9223372036854775807) (omega arith)) (from-zero a k f h (omega arith))
+    ]
+  where
+    from-below : (a : ℤ) (k : ℕ) → SFits w64 a → k < 2 ^ 63 → suc k < suc 9223372036854775807
+        → leZ (negsuc (suc 9223372036854775807 - suc (suc k))) a ≡ in64 (a +ℤ negsuc k)
+    from-below (pos n) k f h l = sym (between n (suc k) (omega (arith, f .sfits)) (omega arith))
+    from-below (negsuc j) k f h l =
+        same-test j (suc 9223372036854775807 - suc (suc k)) (suc (j + k)) (2 ^ 63) (λ i. omega arith) (λ i. omega arith)
+
+    from-zero : (a : ℤ) (k : ℕ) → SFits w64 a → k < 2 ^ 63 → 9223372036854775807 ≤ k
+        → leZ (pos (suc k - suc 9223372036854775807)) a ≡ in64 (a +ℤ negsuc k)
+    from-zero (pos n) k f h l = le-leb (suc k - suc 9223372036854775807) n (omega arith) ∙ sym (between n (suc k) (omega (arith, f .sfits)) (omega arith))
+    from-zero (negsuc j) k f h l = sym (le-ltb (suc (j + k)) (2 ^ 63) (omega arith))
+
+of-64 : (z : ℤ) → in64 z ≡ true → SFits w64 z
+of-64 (pos n) e = record { sfits = ltb-true n (2 ^ 63) e }
+of-64 (negsuc k) e = record { sfits = ltb-true k (2 ^ 63) e }
+
+limit-up : (b : ℤ) → SFits w64 b → leZ (pos 0) b ≡ true
+    → SFits w64 (pos 9223372036854775807 -ℤ b) × ((a : ℤ) → SFits w64 a → leZ a (pos 9223372036854775807 -ℤ b) ≡ in64 (a +ℤ b))
+limit-up (pos m) g h = rw (up m (g .sfits)) (record { sfits = omega arith }, λ a f. fits-up a m f (g .sfits))
+limit-up (negsuc k) g h = let z : _≡_ {A = ℕ} 0 1 = cc in absurd (omega arith)
+
+limit-down : (b : ℤ) → SFits w64 b → leZ (pos 0) b ≡ false
+    → SFits w64 (negsuc 9223372036854775807 -ℤ b) × ((a : ℤ) → SFits w64 a → leZ (negsuc 9223372036854775807 -ℤ b) a ≡ in64 (a +ℤ b))
+limit-down (pos m) g h = absurd (omega (arith, leb-false 0 m h))
+limit-down (negsuc k) g h = (of-64 (subℕ (suc k) (suc 9223372036854775807)) (between (suc k) (suc 9223372036854775807) (omega (arith, g .sfits)) (omega arith)), λ a f. fits-down a k f (g .sfits))
+
+module _ (a b : ℤ) (f : SFits w64 a) (g : SFits w64 b) where
+  module _ (h : leZ (pos 0) (toZ w64 (ofZ w64 b)) ≡ true) where
+    upper : SFits w64 (pos 9223372036854775807 -ℤ b) × ((a : ℤ) → SFits w64 a → leZ a (pos 9223372036854775807 -ℤ b) ≡ in64 (a +ℤ b))
+    upper = limit-up b g (rw (toZ-ofZ w64 b g) at h)
+
+    pub upper-fits : SFits w64 (pos 9223372036854775807 -ℤ toZ w64 (ofZ w64 b))
+    upper-fits = rw (toZ-ofZ w64 b g) (upper .0)
+
+    pub upper-tells : leZ (toZ w64 (ofZ w64 a)) (toZ w64 (ofZ w64 (pos 9223372036854775807 -ℤ toZ w64 (ofZ w64 b)))) ≡ in64 (a +ℤ b)
+    upper-tells =
+        rw (toZ-ofZ w64 a f, toZ-ofZ w64 b g) (rw (toZ-ofZ w64 (pos 9223372036854775807 -ℤ b) (upper .0)) (upper .1 a f))
+
+  module _ (h : leZ (pos 0) (toZ w64 (ofZ w64 b)) ≡ false) where
+    lower : SFits w64 (negsuc 9223372036854775807 -ℤ b) × ((a : ℤ) → SFits w64 a → leZ (negsuc 9223372036854775807 -ℤ b) a ≡ in64 (a +ℤ b))
+    lower = limit-down b g (rw (toZ-ofZ w64 b g) at h)
+
+    pub lower-fits : SFits w64 (negsuc 9223372036854775807 -ℤ toZ w64 (ofZ w64 b))
+    lower-fits = rw (toZ-ofZ w64 b g) (lower .0)
+
+    pub lower-tells : leZ (toZ w64 (ofZ w64 (negsuc 9223372036854775807 -ℤ toZ w64 (ofZ w64 b)))) (toZ w64 (ofZ w64 a)) ≡ in64 (a +ℤ b)
+    lower-tells =
+        rw (toZ-ofZ w64 a f, toZ-ofZ w64 b g) (rw (toZ-ofZ w64 (negsuc 9223372036854775807 -ℤ b) (lower .0)) (lower .1 a f))
+
+-- ---- the time of a record
+
+module _ (x : Fields) (delta : ℤ) (f : SFits w64 (x .firstTimestamp)) (g : SFits w64 delta) (r : Bool)
+    (e : r ≡ in64 (toZ w64 (ofZ w64 (x .firstTimestamp)) +ℤ toZ w64 (ofZ w64 delta))) where
+  sum-is : toZ w64 (ofZ w64 (x .firstTimestamp)) +ℤ toZ w64 (ofZ w64 delta) ≡ x .firstTimestamp +ℤ delta
+  sum-is = λ i. toZ-ofZ w64 (x .firstTimestamp) f i +ℤ toZ-ofZ w64 delta g i
+
+  pub no-time : not r ≡ true → none ≡ recordTime x delta
+  unfolding recordTime
+  no-time h = rw (← sum-is) (rw (← e) (rw (not-true r h)))
+
+  module _ (h : not r ≡ false) where
+    pub time-fits : SFits w64 (toZ w64 (ofZ w64 (x .firstTimestamp)) +ℤ toZ w64 (ofZ w64 delta))
+    time-fits = of-64 _ (sym e ∙ not-false r h)
+
+    pub time-is : some (toZ w64 (ofZ w64 (toZ w64 (ofZ w64 (x .firstTimestamp)) +ℤ toZ w64 (ofZ w64 delta)))) ≡ recordTime x delta
+    unfolding recordTime
+    time-is =
+        ap some (toZ-ofZ w64 _ time-fits ∙ sum-is)
+        ∙ ap (λ (t : Bool). pick t (some (x .firstTimestamp +ℤ delta)) none) (sym (not-false r h) ∙ e ∙ ap in64 sum-is)

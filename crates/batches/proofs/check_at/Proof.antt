@@ -1,0 +1,76 @@
+-- `batches::check_at` meets its contract. Assumes nothing.
+use borrow.Author.Needs.{needs}
+use Rattle.batches.proofs.Judging.{cut-length}
+use native.Mathlib.Omega.{arith}
+use Rattle.batches.proofs.Answering.{opened-within, check-more, check-refused, check-marker, check-records-got, check-records-refused}
+use Rattle.batches.proofs.check_at.Statement.{statement}
+use Rattle.batches.proofs.check_at.Tie as tie
+
+open-at-requires : tie.Need-open-at-requires
+open-at-requires c κs = search needs
+
+enum-known-batch : tie.Need-enum-known-batch
+enum-known-batch c = search needs
+
+add-end : tie.Need-add-end
+add-end c = omega (arith, opened-within _ _ _ (c .before .before .before .open-at .ensures) _ _ _ _ _ (c .before .batch .given .1))
+
+slice-aggregate-check-marker : tie.Need-slice-aggregate-check-marker
+slice-aggregate-check-marker c = cut-length _ _ (opened-within _ _ _ (c .before .before .before .before .before .open-at .ensures) _ _ _ _ _ (c .before .before .before .batch .given .1))
+
+check-marker-requires : tie.Need-check-marker-requires
+check-marker-requires c κs = search needs
+
+returns : tie.Need-returns
+returns c = search check-marker
+
+slice-aggregate-check-records : tie.Need-slice-aggregate-check-records
+slice-aggregate-check-records c = cut-length _ _ (opened-within _ _ _ (c .before .before .before .before .before .open-at .ensures) _ _ _ _ _ (c .before .before .before .batch .given .1))
+
+check-records-requires : tie.Need-check-records-requires
+check-records-requires c κs = search needs
+
+enum-known-records : tie.Need-enum-known-records
+enum-known-records c = search needs
+
+enum-known-f : tie.Need-enum-known-f
+enum-known-f c = search needs
+
+enum-known-n : tie.Need-enum-known-n
+enum-known-n c = search needs
+
+enum-known-f-2 : tie.Need-enum-known-f-2
+enum-known-f-2 c = search needs
+
+returns-2 : tie.Need-returns-2
+returns-2 c = search check-records-got
+
+returns-3 : tie.Need-returns-3
+returns-3 c = search check-records-refused
+
+returns-4 : tie.Need-returns-4
+returns-4 c = search check-more
+
+returns-5 : tie.Need-returns-5
+returns-5 c = search check-refused
+
+pub check-at-spec : {M : Type 1} → statement M
+check-at-spec =
+    tie.close
+    (tie.spec
+    open-at-requires
+    enum-known-batch
+    add-end
+    slice-aggregate-check-marker
+    check-marker-requires
+    returns
+    slice-aggregate-check-records
+    check-records-requires
+    enum-known-records
+    enum-known-f
+    enum-known-n
+    enum-known-f-2
+    returns-2
+    returns-3
+    returns-4
+    returns-5)

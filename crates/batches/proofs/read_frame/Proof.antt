@@ -1,0 +1,70 @@
+-- `batches::read_frame` meets its contract. Assumes nothing.
+use borrow.Author.Needs.{needs}
+use Rattle.batches.proofs.Frames.{frame-few, frame-low, frame-short, frame-unknown, total-casts, place-within, frame-lacks, frame-got}
+use Rattle.batches.proofs.read_frame.Statement.{statement}
+use Rattle.batches.proofs.read_frame.Tie as tie
+
+read-lead-requires : tie.Need-read-lead-requires
+read-lead-requires c κs = search needs
+
+enum-known-lead : tie.Need-enum-known-lead
+enum-known-lead c = search needs
+
+returns : tie.Need-returns
+returns c = search (frame-low, needs)
+
+total-size-requires : tie.Need-total-size-requires
+total-size-requires c κs = search needs
+
+cast-total : tie.Need-cast-total
+cast-total c = total-casts _ _ _ (c .before .before .before .before .before .before .read-lead .ensures) _ _ (c .before .before .before .before .lead .given .1) (search needs) (c .before .if1 .left) (c .total-size .result) (c .total-size .ensures)
+
+read-version-requires : tie.Need-read-version-requires
+read-version-requires c κs = search needs
+
+enum-known-version : tie.Need-enum-known-version
+enum-known-version c = search needs
+
+returns-2 : tie.Need-returns-2
+returns-2 c = search (frame-unknown, needs)
+
+sub-if3 : tie.Need-sub-if3
+sub-if3 c = search (place-within, needs)
+
+returns-3 : tie.Need-returns-3
+returns-3 c = search (frame-lacks, needs)
+
+enum-told : tie.Need-enum-told
+enum-told c = search needs
+
+enum-told-2 : tie.Need-enum-told-2
+enum-told-2 c = search needs
+
+returns-4 : tie.Need-returns-4
+returns-4 c = search (frame-got, needs)
+
+returns-5 : tie.Need-returns-5
+returns-5 c = search (frame-short, needs)
+
+returns-6 : tie.Need-returns-6
+returns-6 c = search frame-few
+
+pub read-frame-spec : {M : Type 1} → statement M
+read-frame-spec =
+    tie.close
+    (tie.spec
+    read-lead-requires
+    enum-known-lead
+    returns
+    total-size-requires
+    cast-total
+    read-version-requires
+    enum-known-version
+    returns-2
+    sub-if3
+    returns-3
+    enum-told
+    enum-told-2
+    returns-4
+    returns-5
+    returns-6)

@@ -1,0 +1,142 @@
+-- Demand 3. The user's words, sentence by sentence, each followed by its statement. What proves each stands in proofs/
+-- under the statement's name in small letters: `stands : Stands`.
+--
+-- The words that are used: `judge` (Judgement.antt) is what document 01 answers where rows are enough, which is demand
+-- 2's answer (Statements.antt joins it to Kafka's format). `ReadPromise` (Promises.antt) is what `RecordBatch::read`
+-- promises on some bytes and some tables: its result, and both tables at exit. A result says document 01's number and
+-- the values named with it (`viewRead`, Answers.antt). A longer beginning is `s ++ more`.
+--
+-- Each sentence is a statement of a judging function, and is then claimed for `judge`, the public reader's, and for
+-- every way of reading control batches, every place of the batch's first byte and every row of its first header. (Where a
+-- number names the answer, the way is one that refuses by none but 2 to 13: `Within`, Statements.antt.)
+use Prim.Native.Nat.{ℕ, _+_, _/_, _<_, _≤_}
+use mathlib.Core.Path.{_≡_}
+use mathlib.Core.Bool.{false}
+use mathlib.Core.Logic.{_⊎_}
+use mathlib.Core.List.{List, _++_}
+use lib.IntN.{pos}
+use lib.ListN.{length}
+use Rattle.records.specs.Rows.{Tables}
+use Rattle.batches.specs.declared.BatchCheck.{BatchCheck}
+use Rattle.batches.specs.declared.BatchRead.{BatchRead}
+use Rattle.batches.specs.Table.{table}
+use Rattle.batches.specs.Judgement.{more, refused, accepted, Accepted, Judgement, numberIn, Control, judgeWith, judge}
+use Rattle.batches.specs.Answers.{viewCheck, viewRead, recordsIn, headersOf, answerWithRoom, roomsOf, hasRoom, stored}
+use Rattle.batches.specs.Promises.{CheckPromise, ReadOutcome, ReadBy, ReadPromise}
+use Rattle.batches.specs.Statements.{Exactly, Within}
+
+abbrev Judging : Type 0
+Judging = List ℕ → Judgement
+
+abbrev number : ReadOutcome → ℕ
+number o = viewRead (o .result) .number
+
+-- tables at least as large
+abbrev pub AtLeast : Tables → Tables → Type 0
+AtLeast t t′ = (length (t .records) ≤ length (t′ .records)) × (length (t .headers) ≤ length (t′ .headers))
+
+-- the rows of what is accepted in the tables, and all else as it was
+abbrev pub storedBy : Judgement → Tables → Tables
+storedBy (more n) t = t
+storedBy (refused n) t = t
+storedBy (accepted b) t = stored (b .content) (b .firstHeader) t
+
+-- ---- "A judgement stands. If the reader, lent a beginning of some bytes and tables of some size, answers anything but
+-- "more bytes" or "no room", every longer beginning with tables at least as large gets that same answer, and it is
+-- demand 2's."
+
+-- o is the outcome on the shorter beginning s, o′ that on the longer one: the result is the same, it is what is due
+-- where rows are enough, and both tables get the same rows.
+pub record Same (j : Judgement) (t t′ : Tables) (o o′ : ReadOutcome) : Type 0 where
+  pub result : o′ .result ≡ o .result
+  pub due : viewRead (o .result) ≡ answerWithRoom j
+  pub tables : o .tables ≡ storedBy j t
+  pub tables′ : o′ .tables ≡ storedBy j t′
+
+abbrev StandsBy : Judging → Type 0
+StandsBy judging =
+    (s after : List ℕ) (t t′ : Tables) (o o′ : ReadOutcome) → ReadBy (judging s) t o → ReadBy (judging (s ++ after)) t′ o′ → AtLeast t t′
+    → (number o ≡ 1 → ⊥) → (number o ≡ 14 → ⊥) → Same (judging s) t t′ o o′
+
+abbrev pub Stands : Type 0
+Stands = StandsBy judge
+
+abbrev pub StandsWith : Type 0
+StandsWith = (way : Control) (at first : ℕ) → StandsBy (λ s. judgeWith way s at first)
+
+-- The same of the judgement itself: what is not "more bytes" is not changed by any byte that follows.
+abbrev JudgeStandsBy : Judging → Type 0
+JudgeStandsBy judging = (s after : List ℕ) → ((n : ℕ) → judging s ≡ more n → ⊥) → judging (s ++ after) ≡ judging s
+
+abbrev pub JudgeStands : Type 0
+JudgeStands = JudgeStandsBy judge
+
+abbrev pub JudgeStandsWith : Type 0
+JudgeStandsWith = (way : Control) (at first : ℕ) → JudgeStandsBy (λ s. judgeWith way s at first)
+
+-- And of the check, which is lent no tables.
+abbrev pub CheckStands : Type 0
+CheckStands =
+    (s after : List ℕ) (r r′ : BatchCheck) → CheckPromise s r → CheckPromise (s ++ after) r′ → (viewCheck r .number ≡ 1 → ⊥) → r′ ≡ r
+
+-- "No room" stands too where the tables have as many rows.
+abbrev NoRoomStandsBy : Judging → Type 0
+NoRoomStandsBy judging =
+    (s after : List ℕ) (t t′ : Tables) (o o′ : ReadOutcome) → ReadBy (judging s) t o → ReadBy (judging (s ++ after)) t′ o′
+    → roomsOf t′ ≡ roomsOf t → number o ≡ 14 → o′ .result ≡ o .result
+
+abbrev pub NoRoomStands : Type 0
+NoRoomStands = NoRoomStandsBy judge
+
+abbrev pub NoRoomStandsWith : Type 0
+NoRoomStandsWith = (way : Control) (at first : ℕ) → NoRoomStandsBy (λ s. judgeWith way s at first)
+
+-- Document 01: "Numbers 2 to 13 never depend on room. Every refusal changes no table". An answer 1 to 13 is the same for
+-- every pair of tables, smaller ones too, and leaves them as they are.
+abbrev RoomFreeBy : Judging → Type 0
+RoomFreeBy judging =
+    (s : List ℕ) (t t′ : Tables) (o o′ : ReadOutcome) → ReadBy (judging s) t o → ReadBy (judging s) t′ o′
+    → (number o ≡ 0 → ⊥) → (number o ≡ 14 → ⊥) → (o′ .result ≡ o .result) × (o .tables ≡ t) × (o′ .tables ≡ t′)
+
+abbrev pub RoomFree : Type 0
+RoomFree = RoomFreeBy judge
+
+abbrev pub RoomFreeWith : Type 0
+RoomFreeWith = (way : Control) (at first : ℕ) → RoomFreeBy (λ s. judgeWith way s at first)
+
+-- ---- ""More bytes" comes only where document 01's lengths say so"
+
+-- Document 01, Reader's numbers, 1: fewer than 12 bytes; or batchLength at least 9 and fewer than 17; or batchLength at
+-- least 9, magic 2 and fewer than 12 + batchLength. It names 12, 17 or 12 + batchLength.
+pub data Lacks (s : List ℕ) (at : ℕ) : ℕ → Type 0 where
+  length-lacks : length s < at + 12 → Lacks s at 12
+  magic-lacks : {n : ℕ} → at + 12 ≤ length s → numberIn (table .batchLength) s at ≡ pos n → 9 ≤ n → length s < at + 17 → Lacks s at 17
+  batch-lacks : {n : ℕ} → at + 17 ≤ length s → numberIn (table .batchLength) s at ≡ pos n → 9 ≤ n → numberIn (table .magic) s at ≡ pos 2
+      → length s < at + (12 + n) → Lacks s at (12 + n)
+
+abbrev pub MoreBytes : Type 0
+MoreBytes = (s : List ℕ) (t : Tables) (o : ReadOutcome) (n : ℕ) → ReadPromise s t o → Exactly (o .result ≡ BatchRead.MoreBytes n) (Lacks s 0 n)
+
+abbrev pub MoreBytesWith : Type 0
+MoreBytesWith =
+    (way : Control) → Within way → (at first : ℕ) (s : List ℕ) (t : Tables) (o : ReadOutcome) (n : ℕ) → ReadBy (judgeWith way s at first) t o
+    → Exactly (o .result ≡ BatchRead.MoreBytes n) (Lacks s at n)
+
+-- ---- ""no room" only where demand 2 accepts and a table is short, naming the rows needed."
+
+abbrev pub NoRoom : Type 0
+NoRoom =
+    (s : List ℕ) (t : Tables) (o : ReadOutcome) (n m : ℕ) → ReadPromise s t o
+    → Exactly (o .result ≡ BatchRead.NoRoom n m)
+    ((b : Accepted) × (judge s ≡ accepted b) × (recordsIn (b .content) ≡ n) × (headersOf (b .content) ≡ m)
+    × ((length (t .records) / 8 < n) ⊎ (length (t .headers) / 4 < m)))
+
+abbrev NoRoomBy : Judging → Type 0
+NoRoomBy judging =
+    (s : List ℕ) (t : Tables) (o : ReadOutcome) (n m : ℕ) → ReadBy (judging s) t o
+    → Exactly (o .result ≡ BatchRead.NoRoom n m)
+    ((b : Accepted) × (judging s ≡ accepted b) × (recordsIn (b .content) ≡ n) × (headersOf (b .content) ≡ m)
+    × (hasRoom (b .content) (b .firstHeader) (roomsOf t) ≡ false))
+
+abbrev pub NoRoomWith : Type 0
+NoRoomWith = (way : Control) → Within way → (at first : ℕ) → NoRoomBy (λ s. judgeWith way s at first)

@@ -1,0 +1,11 @@
+pub mod Table
+pub mod Batch
+pub mod Format
+pub mod Judgement
+pub mod Placed
+pub mod Time
+pub mod Answers
+pub mod Promises
+pub mod Statements
+pub mod Demand3
+pub mod Opening

@@ -1,0 +1,196 @@
+-- The laws of batches, each in words and then as a statement. What proves each stands in proofs/ under the statement's
+-- name in small letters: `sound : Sound`. The statements of demand 3 are in Demand3.antt.
+use Prim.Native.Nat.{ℕ, suc, _+_, _<_, _≤_}
+use mathlib.Core.Path.{_≡_}
+use mathlib.Core.Bool.{Bool, true, false}
+use mathlib.Core.Logic.{_⊎_}
+use mathlib.Core.List.{List, [], _∷_, _++_, map}
+use lib.IntN.{ℤ, pos, negsuc}
+use lib.ListN.{length, take, drop}
+use Rattle.primitives.specs.Bytes.{Bytes}
+use Rattle.primitives.specs.Step.{no}
+use Rattle.primitives.specs.Stands.{Stands, Encoding}
+use Rattle.primitives.specs.Shifted.{movedStep}
+use Rattle.crc32c.specs.Crc.{crc32c}
+use Rattle.records.specs.Format.{Record}
+use Rattle.records.specs.Judgement.{RecordSpans}
+use Rattle.records.specs.Rows.{Tables}
+use Rattle.records.specs.Statements.{sizes, total, movedRecord}
+use Rattle.batches.specs.Table.{Slot, table, uncounted, unchecked, fixedChecked, fixedPart, uncountedFields, uncheckedFields, checkedFields}
+use Rattle.batches.specs.Batch.{Content, control, records, Batch}
+use Rattle.batches.specs.Format.{ContentBytes, BatchBytes}
+use Rattle.batches.specs.Judgement.{more, refused, accepted, Accepted, Judgement, unsignedIn, numberIn, attributesIn, Control, judgeWith, bareMarkerAt, judgeAt, judge}
+use Rattle.batches.specs.Placed.{placedBatch, shownBatch}
+use Rattle.batches.specs.Answers.{Standing, viewRead}
+use Rattle.batches.specs.Promises.{ReadOutcome, ReadPromise}
+
+-- one exactly where the other
+abbrev pub Exactly : Type 0 → Type 0 → Type 0
+Exactly A B = (A → B) × (B → A)
+
+-- ---- the table of fixed fields
+
+-- the fields follow each other from a place up to another
+unfoldable pub RunOn : ℕ → List Slot → ℕ → Type 0
+RunOn p [] q = p ≡ q
+RunOn p (f ∷ rest) q = (f .place ≡ p) × RunOn (p + f .bytes) rest q
+
+-- Each field stands where the one before it ends, and the sizes 12, 9, 40 and 61 are those of their parts.
+abbrev pub TableRunsOn : Type 0
+TableRunsOn =
+    RunOn 0 (uncountedFields table) uncounted × RunOn uncounted (uncheckedFields table) (uncounted + unchecked)
+    × RunOn (uncounted + unchecked) (checkedFields table) fixedPart × (uncounted + unchecked + fixedChecked ≡ fixedPart)
+
+-- ---- the judgement accepts exactly the format's batches
+
+-- What is accepted is a batch by the format, and stands there: its fields, and what its spans show, are encoded by as
+-- many bytes as are consumed, and each start is the place just after its own length.
+abbrev pub Sound : Type 0
+Sound =
+    (s : List ℕ) (at first : ℕ) (b : Accepted) → Bytes s → judgeAt s at first ≡ accepted b
+    → (e : Encoding (BatchBytes false) s at (at + b .consumed) (shownBatch s b)) × (b ≡ placedBatch at first (e .encodes))
+
+-- A batch that stands at any place of any list, with anything after it, is accepted, with its values and its length.
+abbrev pub Complete : Type 0
+Complete =
+    (strict : Bool) (s : List ℕ) (at first q : ℕ) (bs : List ℕ) (b : Batch Record) → Stands s at q bs → (g : BatchBytes strict bs b)
+    → (judgeAt s at first ≡ accepted (placedBatch at first g)) × (shownBatch s (placedBatch at first g) ≡ b)
+
+-- Two batches with the same encoding are equal, and no encoding is a proper beginning of another.
+abbrev pub Unambiguous : Type 0
+Unambiguous =
+    (strict strict′ : Bool) (bs rest : List ℕ) (a b : Batch Record) → BatchBytes strict bs a → BatchBytes strict′ (bs ++ rest) b
+    → (rest ≡ []) × (a ≡ b)
+
+-- After a refusal 2 to 13 no list that begins with these bytes begins with a batch.
+abbrev pub Never : Type 0
+Never =
+    (strict : Bool) (s after bs rest : List ℕ) (b : Batch Record) (t : Tables) (o : ReadOutcome) → ReadPromise s t o
+    → Standing (viewRead (o .result) .number) → s ++ after ≡ bs ++ rest → BatchBytes strict bs b → ⊥
+
+-- ---- numbers
+
+-- a way of reading control batches that refuses by none but the numbers 2 to 13
+abbrev pub Within : Control → Type 0
+Within way = (s : List ℕ) (p n : ℕ) → way s p ≡ no n → Standing n
+
+-- The judgement refuses by none but the numbers 2 to 13.
+abbrev pub Refusals : Type 0
+Refusals = (way : Control) → Within way → (s : List ℕ) (at first n : ℕ) → judgeWith way s at first ≡ refused n → Standing n
+
+-- So does the bare marker.
+abbrev pub BareMarkerWithin : Type 0
+BareMarkerWithin = Within bareMarkerAt
+
+abbrev pub Below : ℤ → ℕ → Type 0
+Below (pos m) n = m < n
+Below (negsuc k) n = Unit {0}
+
+module _ (s : List ℕ) where
+  -- batchLength is n, at least 9, and magic is 2
+  pub record Framed (n : ℕ) : Type 0 where
+    pub there : 17 ≤ length s
+    pub length-is : numberIn (table .batchLength) s 0 ≡ pos n
+    pub length-enough : 9 ≤ n
+    pub magic-is : numberIn (table .magic) s 0 ≡ pos 2
+
+  -- and all bytes of the batch are there
+  pub record Whole (n : ℕ) : Type 0 where
+    pub framed : Framed n
+    pub all-there : 12 + n ≤ length s
+
+  -- the checksum of places 21 to the batch's end
+  abbrev pub sum : ℕ → ℕ
+  sum n = crc32c (drop 21 (take (12 + n) s))
+
+  -- and the checksum is right
+  pub record Checked (n : ℕ) : Type 0 where
+    pub whole : Whole n
+    pub crc-is : unsignedIn (table .crc) s 0 ≡ sum n
+
+  abbrev pub codec : ℕ
+  codec = attributesIn s 0 .codec
+
+  -- the count is n, or -1 and n is 0
+  abbrev pub CountIs : ℕ → Type 0
+  CountIs n = (numberIn (table .count) s 0 ≡ pos n) ⊎ ((numberIn (table .count) s 0 ≡ negsuc 0) × (n ≡ 0))
+
+  abbrev pub CountBelow : Type 0
+  CountBelow = (k : ℕ) × (numberIn (table .count) s 0 ≡ negsuc (suc k))
+
+-- Numbers 2 to 7 are given exactly where document 01 says, over the table of fixed fields.
+pub record NumbersOf (s : List ℕ) : Type 0 where
+  -- batchLength below 9, negatives too
+  pub two : Exactly (judge s ≡ refused 2) ((12 ≤ length s) × Below (numberIn (table .batchLength) s 0) 9)
+  -- magic not 2
+  pub three :
+      Exactly (judge s ≡ refused 3)
+      ((17 ≤ length s) × (Below (numberIn (table .batchLength) s 0) 9 → ⊥) × (numberIn (table .magic) s 0 ≡ pos 2 → ⊥))
+  -- checksum differs
+  pub four : Exactly (judge s ≡ refused 4) ((n : ℕ) × Whole s n × (unsignedIn (table .crc) s 0 ≡ sum s n → ⊥))
+  -- codec 5, 6 or 7
+  pub five : Exactly (judge s ≡ refused 5) ((n : ℕ) × Checked s n × (11 ≤ n) × (5 ≤ codec s))
+  -- codec 1 to 4
+  pub six :
+      Exactly (judge s ≡ refused 6)
+      ((n : ℕ) × Checked s n × (49 ≤ n) × (1 ≤ codec s) × (codec s ≤ 4) × ((m : ℕ) × CountIs s m))
+  -- count below -1; control batch with a count other than 1
+  pub seven :
+      Exactly (judge s ≡ refused 7)
+      ((n : ℕ) × Checked s n × (49 ≤ n) × (codec s ≤ 4)
+      × (CountBelow s ⊎ ((codec s ≡ 0) × (attributesIn s 0 .control ≡ true) × ((m : ℕ) × CountIs s m × (m ≡ 1 → ⊥)))))
+
+abbrev pub Numbers : Type 0
+Numbers = (s : List ℕ) → NumbersOf s
+
+-- ---- sizes
+
+-- the sizes of the records add up to batchLength - 49; with the bare marker batchLength is 53
+abbrev pub SizesOf : (strict : Bool) (bs : List ℕ) (c : Content Record) → ContentBytes strict bs c → ℕ → Type 0
+SizesOf strict bs (control m) g n = n ≡ 53
+SizesOf strict bs (records rs) g n = n ≡ 49 + total (sizes g)
+
+-- In an accepted batch of records the sizes of the records as they stand add up to batchLength - 49; with the bare marker
+-- batchLength is 53.
+abbrev pub Sizes : Type 0
+Sizes =
+    (s : List ℕ) (at first : ℕ) (b : Accepted) → Bytes s → judgeAt s at first ≡ accepted b
+    → (e : Encoding (BatchBytes false) s at (at + b .consumed) (shownBatch s b)) × (n : ℕ)
+    × (numberIn (table .batchLength) s at ≡ pos n) × (b .consumed ≡ 12 + n)
+    × SizesOf false (e .encodes .body) (shownBatch s b .content) (e .encodes .holds) n
+
+-- ---- the place, and the first header row
+
+abbrev pub movedContent : ℕ → Content RecordSpans → Content RecordSpans
+movedContent k (control m) = control m
+movedContent k (records rs) = records (map (movedRecord k) rs)
+
+abbrev pub movedAccepted : ℕ → Accepted → Accepted
+movedAccepted k b = record { fields = b .fields; content = movedContent k (b .content); firstHeader = b .firstHeader; consumed = b .consumed }
+
+abbrev pub movedJudgement : (Accepted → Accepted) → Judgement → Judgement
+movedJudgement f (more n) = more n
+movedJudgement f (refused n) = refused n
+movedJudgement f (accepted b) = accepted (f b)
+
+-- a way of reading control batches to which the place is nothing but where it reads
+abbrev pub Placeless : Control → Type 0
+Placeless way = (front s : List ℕ) (p : ℕ) → way (front ++ s) (length front + p) ≡ movedStep (λ m. m) (length front) (way s p)
+
+-- A place moves the starts, and nothing else.
+abbrev pub PlaceShifted : Type 0
+PlaceShifted =
+    (way : Control) → Placeless way → (front s : List ℕ) (at first : ℕ)
+    → judgeWith way (front ++ s) (length front + at) first ≡ movedJudgement (movedAccepted (length front)) (judgeWith way s at first)
+
+-- The bare marker is read in such a way.
+abbrev pub BareMarkerPlaceless : Type 0
+BareMarkerPlaceless = Placeless bareMarkerAt
+
+-- A first header row is that of the rows, and nothing else.
+abbrev pub FirstHeaderShifted : Type 0
+FirstHeaderShifted =
+    (way : Control) (s : List ℕ) (at first first′ : ℕ)
+    → judgeWith way s at first′
+    ≡ movedJudgement (λ b. record { fields = b .fields; content = b .content; firstHeader = first′; consumed = b .consumed })
+    (judgeWith way s at first)

@@ -1,0 +1,788 @@
+// Batches of records, read from lent bytes into lent tables. Names follow src/protocol/record.rs of rskafka 0.6.0.
+use crc32c::crc32c;
+use primitives::Cursor;
+use primitives::Fault;
+use primitives::Int8Read;
+use primitives::Int16;
+use primitives::Int16Read;
+use primitives::Int32Read;
+use primitives::Int64Read;
+use primitives::Uint32Read;
+use records::RecordFault;
+use records::RecordsCheck;
+use records::RecordsRead;
+use records::check_records;
+use records::read_records;
+ghost use Prim.Native.Nat.{_+_, _≤_};
+ghost use mathlib.Core.Path.{_≡_};
+ghost use lib.Dec.{eqb};
+ghost use lib.IntN.{_+ℤ_};
+ghost use lib.ListN.{length, drop};
+ghost use Rattle.primitives.specs.Pick.{pick};
+ghost use Rattle.primitives.specs.Step.{mapStep};
+ghost use Rattle.primitives.specs.Format.{complement};
+ghost use Rattle.crc32c.specs.Crc.{crc32c as sumOf};
+ghost use Rattle.records.specs.Rows.{tables};
+ghost use Rattle.batches.specs.Table.{table};
+ghost use Rattle.batches.specs.Batch.{createTime, logAppendTime, control};
+ghost use Rattle.batches.specs.Judgement.{unsignedIn, apart, bareMarkerAt, endedAt, judgeAt};
+ghost use Rattle.batches.specs.Time.{in64};
+ghost use Rattle.batches.specs.Answers.{viewType, viewFields, viewMarker, viewCheck, viewRead, answerWithRoom};
+ghost use Rattle.batches.specs.Opening.{leadAt, viewLead, versionAt, viewVersion, frameAt, viewFrame, viewAttributes, attributesAt, viewAttributesRead, timesAt, viewTimes, producerAt, viewProducer, atLeast0, countAt, viewCountRead, fieldsFrom, checkedAt, openingAt, viewOpening, openAt, viewOpened, viewMarkerRead, judgedAs, ofRecordsRead};
+ghost use Rattle.batches.specs.Promises.{BatchNumberPromise, TotalSizePromise, CheckPromise, ReadBy, ReadPromise, RecordTimePromise};
+
+// Whose time the records have.
+pub enum RecordBatchTimestampType {
+    CreateTime,
+    LogAppendTime,
+}
+
+// The fields of a batch that are handed out and in; all else is worked out.
+pub struct RecordBatch {
+    pub base_offset: i64,
+    pub partition_leader_epoch: i32,
+    pub last_offset_delta: i32,
+    pub first_timestamp: i64,
+    pub max_timestamp: i64,
+    pub producer_id: i64,
+    pub producer_epoch: i16,
+    pub base_sequence: i32,
+    pub is_transactional: bool,
+    pub timestamp_type: RecordBatchTimestampType,
+}
+
+// The marker that ends a transaction.
+pub enum ControlBatchRecord {
+    Abort,
+    Commit,
+}
+
+// The kind of a batch: a marker, or as many records as rows of the record table hold.
+pub enum ControlBatchOrRecords {
+    ControlBatch(ControlBatchRecord),
+    Records(usize),
+}
+
+// Why a batch is refused.
+pub enum BatchFault {
+    LengthTooSmall,
+    UnknownMagic,
+    ChecksumDiffers,
+    UnknownCodec,
+    Compressed,
+    WrongCount,
+    UnknownControl,
+    Body(RecordFault),
+}
+
+// What a batch is found to be: its fields, its kind, how many headers its records have, and how many bytes it has; or how
+// many bytes are needed, counted from its first; or why it is refused.
+pub enum BatchCheck {
+    Accepted {
+        batch: RecordBatch,
+        kind: ControlBatchOrRecords,
+        headers: usize,
+        consumed: usize,
+    },
+    MoreBytes(usize),
+    Refused(BatchFault),
+}
+
+// The same, or the rows that are needed where a table has fewer.
+pub enum BatchRead {
+    Accepted {
+        batch: RecordBatch,
+        kind: ControlBatchOrRecords,
+        headers: usize,
+        consumed: usize,
+    },
+    MoreBytes(usize),
+    Refused(BatchFault),
+    NoRoom {
+        records: usize,
+        headers: usize,
+    },
+}
+
+// The time of a record, or that there is none.
+pub enum RecordTime {
+    Time(i64),
+    NoTime,
+}
+
+// What stands before the count of batchLength begins to count.
+struct Lead {
+    base_offset: i64,
+    batch_length: i32,
+}
+
+enum LeadRead {
+    Got(Lead, Cursor),
+    Refused(Fault),
+}
+
+struct Version {
+    partition_leader_epoch: i32,
+    magic: i8,
+}
+
+enum VersionRead {
+    Got(Version, Cursor),
+    Refused(Fault),
+}
+
+// What is known of a batch once its length and magic have been met and all its bytes are there.
+struct Frame {
+    base_offset: i64,
+    partition_leader_epoch: i32,
+    total: usize,
+}
+
+enum FrameRead {
+    Got(Frame),
+    MoreBytes(usize),
+    Refused(BatchFault),
+}
+
+// What the attributes say.
+struct Attributes {
+    codec: u8,
+    timestamp_type: RecordBatchTimestampType,
+    is_transactional: bool,
+    is_control: bool,
+}
+
+enum AttributesRead {
+    Got(Attributes, Cursor),
+    Refused(BatchFault),
+}
+
+struct Times {
+    last_offset_delta: i32,
+    first_timestamp: i64,
+    max_timestamp: i64,
+}
+
+enum TimesRead {
+    Got(Times, Cursor),
+    Refused(Fault),
+}
+
+struct Producer {
+    id: i64,
+    epoch: i16,
+    base_sequence: i32,
+}
+
+enum ProducerRead {
+    Got(Producer, Cursor),
+    Refused(Fault),
+}
+
+// How many records there are.
+enum CountRead {
+    Got(usize, Cursor),
+    Refused(BatchFault),
+}
+
+// What is known of a batch before its marker or its records.
+enum Opening {
+    Got {
+        batch: RecordBatch,
+        is_control: bool,
+        count: usize,
+        next: Cursor,
+    },
+    Refused(BatchFault),
+}
+
+// The same with the bytes of the batch.
+enum Opened {
+    Got {
+        batch: RecordBatch,
+        is_control: bool,
+        count: usize,
+        next: Cursor,
+        total: usize,
+    },
+    MoreBytes(usize),
+    Refused(BatchFault),
+}
+
+enum ControlBatchRecordRead {
+    Got(ControlBatchRecord, Cursor),
+    Refused(BatchFault),
+}
+
+impl BatchFault {
+    // Document 01's number.
+    pub fn number(self) -> u8
+        ensures { λ r. ⌜ BatchNumberPromise self r ⌝ }
+    {
+        match self {
+            BatchFault::LengthTooSmall => 2,
+            BatchFault::UnknownMagic => 3,
+            BatchFault::ChecksumDiffers => 4,
+            BatchFault::UnknownCodec => 5,
+            BatchFault::Compressed => 6,
+            BatchFault::WrongCount => 7,
+            BatchFault::UnknownControl => 12,
+            BatchFault::Body(f) => f.number(),
+        }
+    }
+}
+
+impl RecordBatch {
+    // What stands before batchLength begins to count.
+    pub const UNCOUNTED: usize = 12;
+    // What it counts outside the checksum.
+    pub const UNCHECKED: usize = 9;
+    // The fixed checked part.
+    pub const FIXED_CHECKED: usize = 40;
+    // The whole fixed part.
+    pub const FIXED: usize = 61;
+    // The bytes up to the end of the magic.
+    const THROUGH_MAGIC: usize = 17;
+
+    // The bytes of a batch, from any batchLength.
+    pub fn total_size(batch_length: i32) -> i64
+        ensures { λ r. ⌜ TotalSizePromise «batch_length» r ⌝ }
+    {
+        12 + batch_length as i64
+    }
+
+    // What the bytes begin with, by themselves: no table is needed to judge them.
+    pub fn check(bytes: &[u8]) -> BatchCheck
+        ensures { λ r. ⌜ CheckPromise (now (bytes .entry)) r ⌝ }
+    {
+        check_at(bytes, 0)
+    }
+
+    // The same, and the rows of its records and of their headers in both tables. Starts count from the first byte. No
+    // table is touched before all is known to be right and to have room.
+    pub fn read(bytes: &[u8], records: &mut [i64], headers: &mut [i64]) -> BatchRead
+        ensures { λ r. ⌜ ReadPromise (now (bytes .entry)) (tables (now (records .entry)) (now (headers .entry))) (record { result = r; tables = tables (now (records .exit)) (now (headers .exit)) }) ⌝ }
+    {
+        read_at(bytes, 0, 0, records, headers)
+    }
+
+    // The time of a record with this delta.
+    pub fn record_time(self, delta: i64) -> RecordTime
+        ensures { λ r. ⌜ RecordTimePromise self delta r ⌝ }
+    {
+        let first = self.first_timestamp;
+        if !sum_fits(first, delta) {
+            return RecordTime::NoTime;
+        }
+        RecordTime::Time(first + delta)
+    }
+}
+
+// The largest and the smallest signed number of 64 bits.
+const LARGEST: i64 = 0x7FFF_FFFF_FFFF_FFFF;
+
+const SMALLEST: i64 = -0x8000_0000_0000_0000;
+
+// Whether the sum is a signed number of 64 bits.
+fn sum_fits(a: i64, b: i64) -> bool
+    ensures { λ r. ⌜ r ≡ in64 (a +ℤ b) ⌝ }
+{
+    if 0 <= b {
+        return a <= LARGEST - b;
+    }
+    SMALLEST - b <= a
+}
+
+// The batch that starts at `at`.
+fn check_at(bytes: &[u8], at: usize) -> BatchCheck
+    ensures { λ r. ⌜ viewCheck r ≡ answerWithRoom (judgeAt (now (bytes .entry)) at 0) ⌝ }
+{
+    match open_at(bytes, at) {
+        Opened::Got {
+            batch,
+            is_control,
+            count,
+            next,
+            total,
+        } => {
+            let end = at + total;
+            if is_control {
+                return check_marker(&bytes[..end], next, batch, total);
+            }
+            match check_records(&bytes[..end], next.at, count) {
+                RecordsCheck::Accepted {
+                    records,
+                    headers,
+                    end: _,
+                } => BatchCheck::Accepted {
+                    batch,
+                    kind: ControlBatchOrRecords::Records(records),
+                    headers,
+                    consumed: total,
+                },
+                RecordsCheck::Refused(f) => BatchCheck::Refused(BatchFault::Body(f)),
+            }
+        }
+        Opened::MoreBytes(n) => BatchCheck::MoreBytes(n),
+        Opened::Refused(f) => BatchCheck::Refused(f),
+    }
+}
+
+// A control batch, from its marker on.
+fn check_marker(s: &[u8], c: Cursor, batch: RecordBatch, total: usize) -> BatchCheck
+    ensures { λ r. ⌜ viewCheck r ≡ answerWithRoom (judgedAs (viewFields batch) 0 total (mapStep control (bareMarkerAt (now (s .entry)) (c .at)))) ⌝ }
+{
+    match ControlBatchRecord::read(s, c) {
+        ControlBatchRecordRead::Got(marker, _) => BatchCheck::Accepted {
+            batch,
+            kind: ControlBatchOrRecords::ControlBatch(marker),
+            headers: 0,
+            consumed: total,
+        },
+        ControlBatchRecordRead::Refused(f) => BatchCheck::Refused(f),
+    }
+}
+
+// The batch that starts at `at`, its header rows from `first_header_row` on.
+fn read_at(
+    bytes: &[u8],
+    at: usize,
+    first_header_row: usize,
+    records: &mut [i64],
+    headers: &mut [i64],
+) -> BatchRead
+    ensures { λ r. ⌜ ReadBy (judgeAt (now (bytes .entry)) at «first_header_row») (tables (now (records .entry)) (now (headers .entry))) (record { result = r; tables = tables (now (records .exit)) (now (headers .exit)) }) ⌝ }
+{
+    match open_at(bytes, at) {
+        Opened::Got {
+            batch,
+            is_control,
+            count,
+            next,
+            total,
+        } => {
+            let end = at + total;
+            if is_control {
+                return as_read(check_marker(&bytes[..end], next, batch, total));
+            }
+            let s = &bytes[..end];
+            let read = read_records(s, next.at, count, first_header_row, records, headers);
+            of_records(read, batch, total)
+        }
+        Opened::MoreBytes(n) => BatchRead::MoreBytes(n),
+        Opened::Refused(f) => BatchRead::Refused(f),
+    }
+}
+
+// What needs no rows is read as it is checked.
+fn as_read(check: BatchCheck) -> BatchRead
+    ensures { λ r. ⌜ viewRead r ≡ viewCheck check ⌝ }
+{
+    match check {
+        BatchCheck::Accepted {
+            batch,
+            kind,
+            headers,
+            consumed,
+        } => BatchRead::Accepted {
+            batch,
+            kind,
+            headers,
+            consumed,
+        },
+        BatchCheck::MoreBytes(n) => BatchRead::MoreBytes(n),
+        BatchCheck::Refused(f) => BatchRead::Refused(f),
+    }
+}
+
+// What the reading of its records says of a batch.
+fn of_records(read: RecordsRead, batch: RecordBatch, total: usize) -> BatchRead
+    ensures { λ r. ⌜ r ≡ ofRecordsRead batch total read ⌝ }
+{
+    match read {
+        RecordsRead::Accepted {
+            records,
+            headers,
+            end: _,
+        } => BatchRead::Accepted {
+            batch,
+            kind: ControlBatchOrRecords::Records(records),
+            headers,
+            consumed: total,
+        },
+        RecordsRead::Refused(f) => BatchRead::Refused(BatchFault::Body(f)),
+        RecordsRead::NoRoom { records, headers } => BatchRead::NoRoom { records, headers },
+    }
+}
+
+// All that is judged before the marker or the records. Once length and magic have been met, no byte after the batch is
+// looked at.
+fn open_at(bytes: &[u8], at: usize) -> Opened
+    ensures { λ r. ⌜ viewOpened r ≡ openAt (now (bytes .entry)) at ⌝ }
+{
+    match read_frame(bytes, at) {
+        FrameRead::Got(frame) => {
+            let total = frame.total;
+            let base_offset = frame.base_offset;
+            let partition_leader_epoch = frame.partition_leader_epoch;
+            let end = at + total;
+            match open(&bytes[..end], at, base_offset, partition_leader_epoch) {
+                Opening::Got {
+                    batch,
+                    is_control,
+                    count,
+                    next,
+                } => Opened::Got {
+                    batch,
+                    is_control,
+                    count,
+                    next,
+                    total,
+                },
+                Opening::Refused(f) => Opened::Refused(f),
+            }
+        }
+        FrameRead::MoreBytes(n) => Opened::MoreBytes(n),
+        FrameRead::Refused(f) => Opened::Refused(f),
+    }
+}
+
+fn read_lead(s: &[u8], c: Cursor) -> LeadRead
+    ensures { λ r. ⌜ viewLead r ≡ leadAt (now (s .entry)) (c .at) ⌝ }
+{
+    match c.read_int64(s) {
+        Int64Read::Got(base_offset, at_length) => match at_length.read_int32(s) {
+            Int32Read::Got(batch_length, next) => {
+                let base_offset = base_offset.0;
+                let batch_length = batch_length.0;
+                LeadRead::Got(
+                    Lead {
+                        base_offset,
+                        batch_length,
+                    },
+                    next,
+                )
+            }
+            Int32Read::Refused(f) => LeadRead::Refused(f),
+        },
+        Int64Read::Refused(f) => LeadRead::Refused(f),
+    }
+}
+
+fn read_version(s: &[u8], c: Cursor) -> VersionRead
+    ensures { λ r. ⌜ viewVersion r ≡ versionAt (now (s .entry)) (c .at) ⌝ }
+{
+    match c.read_int32(s) {
+        Int32Read::Got(partition_leader_epoch, at_magic) => match at_magic.read_int8(s) {
+            Int8Read::Got(magic, next) => {
+                let partition_leader_epoch = partition_leader_epoch.0;
+                let magic = magic.0;
+                VersionRead::Got(
+                    Version {
+                        partition_leader_epoch,
+                        magic,
+                    },
+                    next,
+                )
+            }
+            Int8Read::Refused(f) => VersionRead::Refused(f),
+        },
+        Int32Read::Refused(f) => VersionRead::Refused(f),
+    }
+}
+
+// Length and magic are judged as soon as they are there, before any later byte is asked for.
+fn read_frame(s: &[u8], at: usize) -> FrameRead
+    ensures { λ r. ⌜ viewFrame r ≡ frameAt (now (s .entry)) at ⌝ }
+{
+    match read_lead(s, Cursor { at }) {
+        LeadRead::Got(lead, next) => {
+            let batch_length = lead.batch_length;
+            if batch_length < 9 {
+                return FrameRead::Refused(BatchFault::LengthTooSmall);
+            }
+            let total = RecordBatch::total_size(batch_length) as usize;
+            match read_version(s, next) {
+                VersionRead::Got(version, _) => {
+                    if version.magic != 2 {
+                        return FrameRead::Refused(BatchFault::UnknownMagic);
+                    }
+                    if s.len() - at < total {
+                        return FrameRead::MoreBytes(total);
+                    }
+                    let base_offset = lead.base_offset;
+                    let partition_leader_epoch = version.partition_leader_epoch;
+                    FrameRead::Got(Frame {
+                        base_offset,
+                        partition_leader_epoch,
+                        total,
+                    })
+                }
+                VersionRead::Refused(_) => FrameRead::MoreBytes(RecordBatch::THROUGH_MAGIC),
+            }
+        }
+        LeadRead::Refused(_) => FrameRead::MoreBytes(RecordBatch::UNCOUNTED),
+    }
+}
+
+// Bits 0 to 5 are the lower byte's. Higher bits are ignored.
+fn attributes_of(raw: Int16) -> Attributes
+    ensures { λ r. ⌜ viewAttributes r ≡ apart (complement 16 (raw .0)) ⌝ }
+{
+    let bytes = raw.to_be_bytes();
+    let low = bytes[1];
+    let timestamp_type = timestamp_type_of(low / 8 % 2 == 1);
+    Attributes {
+        codec: low % 8,
+        timestamp_type,
+        is_transactional: low / 16 % 2 == 1,
+        is_control: low / 32 % 2 == 1,
+    }
+}
+
+fn timestamp_type_of(log_append: bool) -> RecordBatchTimestampType
+    ensures { λ r. ⌜ viewType r ≡ pick «log_append» logAppendTime createTime ⌝ }
+{
+    if log_append {
+        RecordBatchTimestampType::LogAppendTime
+    } else {
+        RecordBatchTimestampType::CreateTime
+    }
+}
+
+// An unknown codec is met here, whatever follows.
+fn read_attributes(s: &[u8], c: Cursor) -> AttributesRead
+    ensures { λ r. ⌜ viewAttributesRead r ≡ attributesAt (now (s .entry)) (c .at) ⌝ }
+{
+    match c.read_int16(s) {
+        Int16Read::Got(raw, next) => {
+            let attributes = attributes_of(raw);
+            if 4 < attributes.codec {
+                return AttributesRead::Refused(BatchFault::UnknownCodec);
+            }
+            AttributesRead::Got(attributes, next)
+        }
+        Int16Read::Refused(f) => AttributesRead::Refused(BatchFault::Body(RecordFault::Field(f))),
+    }
+}
+
+fn read_times(s: &[u8], c: Cursor) -> TimesRead
+    ensures { λ r. ⌜ viewTimes r ≡ timesAt (now (s .entry)) (c .at) ⌝ }
+{
+    match c.read_int32(s) {
+        Int32Read::Got(delta, at_first) => match at_first.read_int64(s) {
+            Int64Read::Got(first, at_max) => match at_max.read_int64(s) {
+                Int64Read::Got(max, next) => {
+                    let last_offset_delta = delta.0;
+                    let first_timestamp = first.0;
+                    let max_timestamp = max.0;
+                    TimesRead::Got(
+                        Times {
+                            last_offset_delta,
+                            first_timestamp,
+                            max_timestamp,
+                        },
+                        next,
+                    )
+                }
+                Int64Read::Refused(f) => TimesRead::Refused(f),
+            },
+            Int64Read::Refused(f) => TimesRead::Refused(f),
+        },
+        Int32Read::Refused(f) => TimesRead::Refused(f),
+    }
+}
+
+fn read_producer(s: &[u8], c: Cursor) -> ProducerRead
+    ensures { λ r. ⌜ viewProducer r ≡ producerAt (now (s .entry)) (c .at) ⌝ }
+{
+    match c.read_int64(s) {
+        Int64Read::Got(id, at_epoch) => match at_epoch.read_int16(s) {
+            Int16Read::Got(epoch, at_sequence) => match at_sequence.read_int32(s) {
+                Int32Read::Got(sequence, next) => {
+                    let id = id.0;
+                    let epoch = epoch.0;
+                    let base_sequence = sequence.0;
+                    ProducerRead::Got(
+                        Producer {
+                            id,
+                            epoch,
+                            base_sequence,
+                        },
+                        next,
+                    )
+                }
+                Int32Read::Refused(f) => ProducerRead::Refused(f),
+            },
+            Int16Read::Refused(f) => ProducerRead::Refused(f),
+        },
+        Int64Read::Refused(f) => ProducerRead::Refused(f),
+    }
+}
+
+// The count is judged before the codec, and a control batch's after it. A count of -1 reads as 0.
+fn read_count(s: &[u8], c: Cursor, attributes: Attributes) -> CountRead
+    ensures { λ r. ⌜ viewCountRead r ≡ countAt (viewAttributes attributes) (now (s .entry)) (c .at) ⌝ }
+{
+    match c.read_int32(s) {
+        Int32Read::Got(count, next) => {
+            let count = count.0;
+            if count < -1 {
+                return CountRead::Refused(BatchFault::WrongCount);
+            }
+            if 0 < attributes.codec {
+                return CountRead::Refused(BatchFault::Compressed);
+            }
+            let records = at_least_0(count);
+            if attributes.is_control {
+                if records != 1 {
+                    return CountRead::Refused(BatchFault::WrongCount);
+                }
+            }
+            CountRead::Got(records, next)
+        }
+        Int32Read::Refused(f) => CountRead::Refused(BatchFault::Body(RecordFault::Field(f))),
+    }
+}
+
+fn at_least_0(count: i32) -> usize
+    ensures { λ r. ⌜ r ≡ atLeast0 count ⌝ }
+{
+    if count < 0 { 0 } else { count as usize }
+}
+
+// The batch's bytes end where `s` ends.
+fn open(s: &[u8], at: usize, base_offset: i64, partition_leader_epoch: i32) -> Opening
+    requires { ⌜ at + 21 ≤ length (now s) ⌝ }
+    ensures { λ r. ⌜ viewOpening r ≡ openingAt «base_offset» «partition_leader_epoch» (now (s .entry)) at ⌝ }
+{
+    if !checksum_holds(s, at) {
+        return Opening::Refused(BatchFault::ChecksumDiffers);
+    }
+    let checked = at + RecordBatch::UNCOUNTED + RecordBatch::UNCHECKED;
+    open_checked(
+        s,
+        Cursor { at: checked },
+        base_offset,
+        partition_leader_epoch,
+    )
+}
+
+// The checksum is over all that follows it.
+fn checksum_holds(s: &[u8], at: usize) -> bool
+    requires { ⌜ at + 21 ≤ length (now s) ⌝ }
+    ensures { λ r. ⌜ r ≡ eqb (unsignedIn (table .crc) (now (s .entry)) at) (sumOf (drop (at + 21) (now (s .entry)))) ⌝ }
+{
+    let c = Cursor {
+        at: at + RecordBatch::THROUGH_MAGIC,
+    };
+    let from = at + RecordBatch::UNCOUNTED + RecordBatch::UNCHECKED;
+    match c.read_uint32(s) {
+        Uint32Read::Got(crc, _) => crc.0 == crc32c(&s[from..]),
+        Uint32Read::Refused(_) => false,
+    }
+}
+
+fn open_checked(s: &[u8], c: Cursor, base_offset: i64, partition_leader_epoch: i32) -> Opening
+    ensures { λ r. ⌜ viewOpening r ≡ checkedAt «base_offset» «partition_leader_epoch» (now (s .entry)) (c .at) ⌝ }
+{
+    match read_attributes(s, c) {
+        AttributesRead::Got(attributes, at_times) => match read_times(s, at_times) {
+            TimesRead::Got(times, at_producer) => match read_producer(s, at_producer) {
+                ProducerRead::Got(producer, at_count) => match read_count(s, at_count, attributes) {
+                    CountRead::Got(count, next) => Opening::Got {
+                        batch: batch_of(
+                            base_offset,
+                            partition_leader_epoch,
+                            attributes,
+                            times,
+                            producer,
+                        ),
+                        is_control: attributes.is_control,
+                        count,
+                        next,
+                    },
+                    CountRead::Refused(f) => Opening::Refused(f),
+                },
+                ProducerRead::Refused(f) => Opening::Refused(BatchFault::Body(RecordFault::Field(
+                    f,
+                ))),
+            },
+            TimesRead::Refused(f) => Opening::Refused(BatchFault::Body(RecordFault::Field(f))),
+        },
+        AttributesRead::Refused(f) => Opening::Refused(f),
+    }
+}
+
+fn batch_of(
+    base_offset: i64,
+    partition_leader_epoch: i32,
+    attributes: Attributes,
+    times: Times,
+    producer: Producer,
+) -> RecordBatch
+    ensures { λ r. ⌜ viewFields r ≡ fieldsFrom «base_offset» «partition_leader_epoch» (viewAttributes attributes) times producer ⌝ }
+{
+    let last_offset_delta = times.last_offset_delta;
+    let first_timestamp = times.first_timestamp;
+    let max_timestamp = times.max_timestamp;
+    let producer_id = producer.id;
+    let producer_epoch = producer.epoch;
+    let base_sequence = producer.base_sequence;
+    let is_transactional = attributes.is_transactional;
+    let timestamp_type = attributes.timestamp_type;
+    RecordBatch {
+        base_offset,
+        partition_leader_epoch,
+        last_offset_delta,
+        first_timestamp,
+        max_timestamp,
+        producer_id,
+        producer_epoch,
+        base_sequence,
+        is_transactional,
+        timestamp_type,
+    }
+}
+
+impl ControlBatchRecord {
+    // The version is judged before the type is looked at.
+    fn read(s: &[u8], c: Cursor) -> ControlBatchRecordRead
+        ensures { λ r. ⌜ viewMarkerRead r ≡ bareMarkerAt (now (s .entry)) (c .at) ⌝ }
+    {
+        match c.read_int16(s) {
+            Int16Read::Got(version, at_type) => {
+                let version = version.0;
+                if version != 0 {
+                    return ControlBatchRecordRead::Refused(BatchFault::UnknownControl);
+                }
+                match at_type.read_int16(s) {
+                    Int16Read::Got(t, next) => {
+                        let t = t.0;
+                        if t == 0 {
+                            return ended(s, ControlBatchRecord::Abort, next);
+                        }
+                        if t == 1 {
+                            return ended(s, ControlBatchRecord::Commit, next);
+                        }
+                        ControlBatchRecordRead::Refused(BatchFault::UnknownControl)
+                    }
+                    Int16Read::Refused(f) =>
+                        ControlBatchRecordRead::Refused(BatchFault::Body(RecordFault::Field(f))),
+                }
+            }
+            Int16Read::Refused(f) =>
+                ControlBatchRecordRead::Refused(BatchFault::Body(RecordFault::Field(f))),
+        }
+    }
+}
+
+// Nothing follows a marker.
+fn ended(s: &[u8], marker: ControlBatchRecord, c: Cursor) -> ControlBatchRecordRead
+    ensures { λ r. ⌜ viewMarkerRead r ≡ endedAt (now (s .entry)) (viewMarker marker) (c .at) ⌝ }
+{
+    if c.at < s.len() {
+        return ControlBatchRecordRead::Refused(BatchFault::Body(RecordFault::BytesLeft));
+    }
+    ControlBatchRecordRead::Got(marker, c)
+}
