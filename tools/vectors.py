@@ -4,6 +4,7 @@
 Every expectation is worked out here, by Python's arithmetic, from the sentences and tables of document 01, from RFC
 3720's polynomial and from RFC 3629's rows. Nothing of the code under test is used."""
 from itertools import islice
+import zlib
 
 ABOUT = """\
 # Cases for crates/vectors, written by tools/vectors.py. The expectations come from the sentences and tables of
@@ -30,8 +31,20 @@ ABOUT = """\
 #                                is 0, the numbers of all record rows follow, and those of all header rows; all other
 #                                numbers of both tables stay as they are. The check without tables answers the same,
 #                                and 0 in place of 14. records@K reads at place K
+# batch HEX R H NUMBER [..]      reading a batch at the start of the bytes HEX into such tables answers NUMBER. After 0
+#                                follow base offset, leader epoch, last offset delta, first and max timestamp, producer
+#                                id, producer epoch, base sequence, timestamp type (0 create, 1 log append),
+#                                transactional (0, 1), kind (0 records, 1 abort, 2 commit), the counts of records and
+#                                headers, the bytes consumed, and |ROWS|ROWS; after 1 the bytes needed; after 14 the
+#                                records and headers needed, and | with what the check answers. Else the check answers
+#                                the same, and all other numbers of both tables always stay as they are
+# cuts@K HEX R H NUMBER [..]     the same for each start of HEX with K bytes or more. A shorter one needs 12 bytes or,
+#                                where it has them, 17 or, where it has them, K
+# time FIRST DELTA [TIME]        a record's time, or none, after that first timestamp, whichever the timestamp type
+# total LENGTH TOTAL             a batch with that batchLength is TOTAL bytes
 #
-# HEX is capital digits, two to a byte, or - for no bytes."""
+# HEX is capital digits, two to a byte, or - for no bytes. Empty lines are no cases: they fill the text up to where the
+# program reads the next part of it."""
 
 # Document 01, the rows of "Numbers of varying length": bytes and value, at both widths.
 ROWS = [
@@ -106,7 +119,9 @@ FAULTS = [
 ]
 ASCII_AROUND = 17
 
-ACCEPTED, PAST_END, BEYOND_LIMITS, NEGATIVE_LENGTH, NOT_UTF8, BYTES_LEFT, NO_ROOM = 0, 8, 9, 10, 11, 13, 14
+# Document 01, "Reader's numbers".
+(ACCEPTED, MORE_BYTES, LENGTH_TOO_SMALL, UNKNOWN_MAGIC, CHECKSUM_DIFFERS, UNKNOWN_CODEC, COMPRESSED, WRONG_COUNT,
+ PAST_END, BEYOND_LIMITS, NEGATIVE_LENGTH, NOT_UTF8, UNKNOWN_CONTROL, BYTES_LEFT, NO_ROOM) = range(15)
 GREATEST_PLACE = 2 ** 64 - 1
 GREATEST_LENGTH = 2 ** 31 - 1
 
@@ -118,6 +133,7 @@ PARTS = {
 }
 LENGTHS = {"key_length": -1, "value_length": -1, "count": 0, "header_key_length": 0, "header_value_length": 0}
 NULL, EMPTY = "01", "00"
+NO_HEADER = {"count": "00", **{part: "" for part in PARTS if part.startswith("header")}}
 # How many numbers tables have where room is of no concern: three rows each, and a remainder.
 ROOM = (30, 15)
 # What the program puts into both tables beforehand: these numbers, one more from place to place.
@@ -131,6 +147,33 @@ BAD_KEYS = [
     "EDA080", "EDBFBF", "C080", "C1BF", "E09FBF", "F08FBFBF", "F4908080", "F5808080", "C3", "41E282", "F09F98",
     "80", "BF", "41C3A9A9", "FF",
 ]
+
+# How many bytes the program reads at a time.
+PART = 65536
+
+# Document 01, "Fixed fields": place, bytes and field, and what it has here where a case says nothing else.
+FIXED = [
+    (0, 8, "base_offset", 1), (8, 4, "batch_length", None), (12, 4, "leader_epoch", 2), (16, 1, "magic", 2),
+    (17, 4, "crc", None), (21, 2, "attributes", 0), (23, 4, "last_offset_delta", 3), (27, 8, "first_timestamp", 4),
+    (35, 8, "max_timestamp", 5), (43, 8, "producer_id", 6), (51, 2, "producer_epoch", 7), (53, 4, "base_sequence", 8),
+    (57, 4, "count", 0),
+]
+UNCOUNTED, BEFORE_CRC, CHECKED, BODY = 12, 17, 21, 61
+# Those handed out, in the order of an answer.
+FIELDS = [
+    (size, name) for _, size, name, _ in FIXED if name not in ("batch_length", "magic", "crc", "attributes", "count")
+]
+LOG_APPEND, TRANSACTIONAL, CONTROL = 8, 16, 32
+ABORT, COMMIT = bytes(4), bytes([0, 0, 0, 1])
+# A record's bytes and the number that they give, with enough before them and nothing behind.
+RECORD_FAULTS = [
+    ("", PAST_END), ("0C0000000101", PAST_END), ("0C0000000A", PAST_END), ("FFFFFFFF10", BEYOND_LIMITS),
+    ("2000FFFFFFFFFFFFFFFFFF02", BEYOND_LIMITS), ("01", NEGATIVE_LENGTH), ("0C000000030100", NEGATIVE_LENGTH),
+    ("0C000000010101", NEGATIVE_LENGTH), ("12000000010102028000", NOT_UTF8), ("12000000010102028001", NOT_UTF8),
+    ("12000000010102024101", NEGATIVE_LENGTH), ("0E00000001010000", BYTES_LEFT), ("0C00000001010000", BYTES_LEFT),
+]
+# Stands for nothing in the program's answers.
+UNNAMED = 3000000
 
 
 def zigzag(n):
@@ -162,20 +205,29 @@ def limits(width):
 
 
 class Text:
-    """The lines of the file. A case that stands in its group already is left out."""
+    """The lines of the file, group by group. A case that stands in its group already is left out."""
 
     def __init__(self):
-        self.lines, self.group = [ABOUT], set()
+        self.groups = [[ABOUT]]
 
     def heading(self, name):
-        self.lines.append("= " + name)
-        self.group = set()
+        self.groups.append(["= " + name])
 
     def case(self, *words):
         line = " ".join((w.hex().upper() or "-") if isinstance(w, bytes) else str(w) for w in words)
-        if line not in self.group:
-            self.group.add(line)
-            self.lines.append(line)
+        if line not in self.groups[-1]:
+            self.groups[-1].append(line)
+
+    def parts(self):
+        """The whole. A group stands in one part, and empty lines fill up each part but the last."""
+        whole = ""
+        for lines in self.groups:
+            group = "\n".join(lines) + "\n"
+            if len(whole) % PART + len(group) > PART:
+                whole += "\n" * (-len(whole) % PART)
+            whole += group
+        assert len(whole) < 2 * PART
+        return whole
 
 
 def document_rows(text):
@@ -492,6 +544,19 @@ def record_tables(data, at, count, first):
     return rows, header_rows
 
 
+def table_numbers(tables):
+    """The numbers of all rows, table by table. None of them is one that the program puts there beforehand."""
+    flat = [[n for row in rows for n in row] for rows in tables]
+    assert not any(n in marks for numbers, marks in zip(flat, (RECORD_MARKS, HEADER_MARKS)) for n in numbers)
+    return flat
+
+
+def behind_bars(words, lists):
+    """The words, with each list of numbers behind a bar."""
+    bars = "".join("|" + " ".join(map(str, numbers)) for numbers in lists)
+    return words[:-1] + [str(words[-1]) + bars]
+
+
 def records(text, expected, data, count=1, at=0, first=0, room=ROOM):
     """A case whose number is expected by whoever puts it here."""
     found, told = ACCEPTED, ()
@@ -505,12 +570,7 @@ def records(text, expected, data, count=1, at=0, first=0, room=ROOM):
         found, = refused.args
     assert found == expected, (data.hex(), found, expected)
     words = ["records@%d" % at if at else "records", data, count, first, *room, found, *told]
-    if found == ACCEPTED:
-        for rows, marks in zip(tables, (RECORD_MARKS, HEADER_MARKS)):
-            numbers = [n for row in rows for n in row]
-            assert not any(n in marks for n in numbers)
-            words[-1] = "%s|%s" % (words[-1], " ".join(map(str, numbers)))
-    text.case(*words)
+    text.case(*behind_bars(words, table_numbers(tables) if found == ACCEPTED else []))
 
 
 def record_of(named=None, upto=None, **others):
@@ -704,6 +764,414 @@ def records_room(text):
     records(text, BYTES_LEFT, three + b"\0", count=3, first=GREATEST_PLACE)
 
 
+def integer(stream, size):
+    return int.from_bytes(bytes(octet(stream)[1] for _ in range(size)), "big", signed=True)
+
+
+def batch_parts(data):
+    """What an accepted batch at the start of the data is told to be, and both tables; in the order of document 01,
+    "Reader's numbers"."""
+    if len(data) < UNCOUNTED:
+        raise Refused(MORE_BYTES, UNCOUNTED)
+    stream = enumerate(data)
+    fields = {"base_offset": integer(stream, 8)}
+    whole = UNCOUNTED + integer(stream, 4)
+    if whole < CHECKED:
+        raise Refused(LENGTH_TOO_SMALL)
+    if len(data) < BEFORE_CRC:
+        raise Refused(MORE_BYTES, BEFORE_CRC)
+    fields["leader_epoch"] = integer(stream, 4)
+    if integer(stream, 1) != 2:
+        raise Refused(UNKNOWN_MAGIC)
+    if len(data) < whole:
+        raise Refused(MORE_BYTES, whole)
+    stream = islice(stream, whole - BEFORE_CRC)
+    if integer(stream, 4) % 2 ** 32 != crc32c(data[CHECKED:whole]):
+        raise Refused(CHECKSUM_DIFFERS)
+    attributes = integer(stream, 2)
+    if attributes % 8 > 4:
+        raise Refused(UNKNOWN_CODEC)
+    for size, name in FIELDS[2:]:
+        fields[name] = integer(stream, size)
+    kind, tables = batch_body(data[:whole], attributes, integer(stream, 4), stream)
+    told = (*fields.values(), attributes // LOG_APPEND % 2, attributes // TRANSACTIONAL % 2, kind)
+    return told + (len(tables[0]), len(tables[1]), whole), tables
+
+
+def batch_body(batch, attributes, count, stream):
+    """The kind, and both tables. The count has just been read."""
+    if count < -1:
+        raise Refused(WRONG_COUNT)
+    if attributes % 8:
+        raise Refused(COMPRESSED)
+    if not attributes // CONTROL % 2:
+        return 0, record_tables(batch, BODY, max(count, 0), 0)
+    if count != 1:
+        raise Refused(WRONG_COUNT)
+    if integer(stream, 2) != 0:
+        raise Refused(UNKNOWN_CONTROL)
+    kind = {0: 1, 1: 2}.get(integer(stream, 2))
+    if not kind:
+        raise Refused(UNKNOWN_CONTROL)
+    for _ in stream:
+        raise Refused(BYTES_LEFT)
+    return kind, ([], [])
+
+
+def batch_answer(data, room):
+    """The answer's numbers, those of the check, and both tables."""
+    try:
+        told, tables = batch_parts(data)
+    except Refused as refused:
+        return refused.args, refused.args, ()
+    check = (ACCEPTED, *told)
+    needed = [len(rows) for rows in tables]
+    if any(rows > numbers // width for rows, numbers, width in zip(needed, room, (8, 4))):
+        return (NO_ROOM, *needed), check, ()
+    return check, check, tables
+
+
+def batch(text, expected, data, room=ROOM, start=None):
+    """A case whose number is expected by whoever puts it here: of the data, or of each start that has so many bytes."""
+    read, check, tables = batch_answer(data, room)
+    assert read[0] == expected, (data.hex(), read, expected)
+    for end in range(start or len(data), len(data)):
+        assert batch_answer(data[:end], room) == (read, check, tables)
+    for end in range(start or 0):
+        needed = next(n for n in (UNCOUNTED, BEFORE_CRC, start) if end < n)
+        assert batch_answer(data[:end], room)[0] == (MORE_BYTES, needed)
+    assert UNNAMED not in read + check
+    words = ["cuts@%d" % start if start else "batch", data, *room, *read]
+    text.case(*behind_bars(words, [check] if expected == NO_ROOM else table_numbers(tables)))
+
+
+def batch_of(body=b"", upto=None, **others):
+    """A batch by its fields, with others in place of some. Its length and its checksum are right unless they are named.
+    The checked bytes may be cut."""
+    values = {name: others.get(name, usual) for _, _, name, usual in FIXED}
+
+    def put(names):
+        return b"".join((values[name] % 256 ** size).to_bytes(size, "big") for _, size, name, _ in names)
+
+    places = [place for place, _, _, _ in FIXED]
+    assert places[1:] + [BODY] == [place + size for place, size, _, _ in FIXED]
+    checked = (put(FIXED[places.index(CHECKED):]) + body)[:upto]
+    if values["batch_length"] is None:
+        values["batch_length"] = CHECKED - UNCOUNTED + len(checked)
+    if values["crc"] is None:
+        values["crc"] = crc32c(checked)
+    return put(FIXED[:places.index(CHECKED)]) + checked
+
+
+def of_records(*parts, **others):
+    """A batch of records that names how many there are."""
+    return batch_of(b"".join(parts), **{"count": len(parts), **others})
+
+
+def marker(body=ABORT, attributes=CONTROL, **others):
+    return batch_of(body, attributes=attributes, **{"count": 1, **others})
+
+
+def flipped(data, place, bit=0):
+    return data[:place] + bytes([data[place] ^ 1 << bit]) + data[place + 1:]
+
+
+def batches_examples(text):
+    """The batches that document 01 describes."""
+    text.heading("batches, examples")
+    batch(text, LENGTH_TOO_SMALL, batch_of(batch_length=8))
+    batch(text, PAST_END, batch_of(upto=0))
+    for count in (0, -1):
+        data = batch_of(count=count)
+        assert len(data) == 61 and data[8:12] == bytes([0, 0, 0, 49])
+        batch(text, ACCEPTED, data)
+    batch(text, BYTES_LEFT, of_records(bytes.fromhex(RECORD_NAMES_100)))
+    for digits, _ in RECORD_ROWS:
+        batch(text, ACCEPTED, of_records(bytes.fromhex(digits)))
+    zeros = {name: 0 for _, name in FIELDS}
+    first, second = batch_of(**zeros), of_records(bytes.fromhex(RECORD_ROWS[1][0]), **{**zeros, "base_offset": 7})
+    assert (len(first), len(second)) == (61, 69)
+    file = first + second + bytes(3)
+    batch(text, ACCEPTED, file)
+    batch(text, ACCEPTED, file[61:])
+    batch(text, MORE_BYTES, file[130:])
+    for body in (ABORT, COMMIT):
+        data = marker(body)
+        assert data[8:12] == bytes([0, 0, 0, 53])
+        batch(text, ACCEPTED, data)
+
+
+def batches_lengths(text):
+    """Both sides of each condition on lengths, and what is met before it."""
+    text.heading("batches, lengths")
+    data = of_records(record_of())
+    for end in (0, 1, 11, 12, 16, 17, 20, 21, 60, 61, len(data) - 1):
+        batch(text, MORE_BYTES, data[:end])
+    batch(text, ACCEPTED, data, start=len(data))
+    for named in (8, 7, 0, -1, -2 ** 31):
+        batch(text, LENGTH_TOO_SMALL, batch_of(batch_length=named)[:12])
+        batch(text, LENGTH_TOO_SMALL, batch_of(batch_length=named), start=12)
+    batch(text, LENGTH_TOO_SMALL, batch_of(batch_length=8, magic=1), start=12)
+    for named in (9, 49, 255, 256, different(4, 1), 2 ** 31 - 1):
+        long = batch_of(batch_length=named)
+        for end in (11, 12, 16, 17, 20):
+            batch(text, MORE_BYTES, long[:end])
+    batch(text, MORE_BYTES, batch_of(batch_length=2 ** 31 - 1))
+    batch(text, MORE_BYTES, batch_of(batch_length=50))
+    batch(text, CHECKSUM_DIFFERS, batch_of(batch_length=48))
+    for magic in (0, 1, 3, 127, -1, -128):
+        for named in (9, 49, 2 ** 31 - 1):
+            batch(text, UNKNOWN_MAGIC, batch_of(magic=magic, batch_length=named)[:17])
+        batch(text, MORE_BYTES, batch_of(magic=magic)[:16])
+        batch(text, UNKNOWN_MAGIC, batch_of(magic=magic, crc=0, attributes=5), start=17)
+
+
+def batches_cut(text):
+    """The checked part ends early, its checksum right. What stands before is met first."""
+    text.heading("batches, cut")
+    for upto in range(BODY - CHECKED):
+        batch(text, PAST_END, batch_of(upto=upto, count=1))
+    for upto, expected in ((0, PAST_END), (1, PAST_END), (2, UNKNOWN_CODEC), (39, UNKNOWN_CODEC)):
+        batch(text, expected, batch_of(upto=upto, attributes=5))
+    for attributes in (1, CONTROL, CONTROL + 4):
+        for upto in (2, 36, 39):
+            batch(text, PAST_END, batch_of(upto=upto, attributes=attributes, count=-2))
+    # what is cut off follows the batch, and would give another number
+    for upto, others in ((1, {"attributes": 5}), (2, {"attributes": 1}), (36, {"count": -2}), (39, {"count": -2})):
+        cut = batch_of(upto=upto, **others)
+        batch(text, PAST_END, cut + batch_of(**others)[len(cut):], start=len(cut))
+
+
+def batches_fields(text):
+    """Bytes that all differ, extremes and signs, of each field alone and of all; and the attributes."""
+    text.heading("batches, fields")
+
+    def told(values):
+        data = batch_of(**values)
+        answer, _, _ = batch_answer(data, ROOM)
+        assert all(n == values.get(name, n) for n, (_, name) in zip(answer[1:], FIELDS))
+        batch(text, ACCEPTED, data)
+
+    for size, name in FIELDS:
+        told({name: different(size, 1)})
+        told({name: -2 ** (8 * size - 1)})
+    for sign in (1, -1):
+        told({name: sign * different(size, 1 + 8 * rank) for rank, (size, name) in enumerate(FIELDS)})
+        told({name: sign * (2 ** (8 * size - 1) - 1) for size, name in FIELDS})
+        told({name: (sign - 1) // 2 for _, name in FIELDS})
+    told({name: -2 ** (8 * size - 1) for size, name in FIELDS})
+    for bits in range(4):
+        for body in (None, ABORT, COMMIT):
+            attributes = bits * LOG_APPEND
+            data = batch_of(attributes=attributes) if body is None else marker(body, attributes + CONTROL)
+            batch(text, ACCEPTED, data)
+    for bit in (6, 7, 8, 11, 15):
+        batch(text, ACCEPTED, batch_of(attributes=1 << bit))
+    for attributes in (0xFFC0, 0xFFD8):
+        batch(text, ACCEPTED, batch_of(attributes=attributes))
+        batch(text, ACCEPTED, marker(COMMIT, attributes + CONTROL))
+    for attributes, expected in ((0xFFC1, COMPRESSED), (0xFFFD, UNKNOWN_CODEC)):
+        batch(text, expected, batch_of(attributes=attributes))
+
+
+def sum_over_itself(data, start):
+    """The checksum that would be right, were it taken from a place before it on, or none. But for a constant it is
+    linear in the bits of the field, so that they follow by elimination."""
+
+    def off(crc):
+        return crc32c(data[start:BEFORE_CRC] + crc.to_bytes(4, "big") + data[CHECKED:]) ^ crc
+
+    left, solution, basis = off(0), 0, []
+    for bit in range(32):
+        column, bits = off(1 << bit) ^ off(0), 1 << bit
+        for reduced, combined in basis:
+            if column ^ reduced < column:
+                column, bits = column ^ reduced, bits ^ combined
+        if column:
+            basis.append((column, bits))
+            basis.sort(reverse=True)
+    for reduced, combined in basis:
+        if left ^ reduced < left:
+            left, solution = left ^ reduced, solution ^ combined
+    return None if left else solution
+
+
+def summed_from(start):
+    """A batch whose checksum is right over the bytes from a place before it on."""
+    for sequence in range(100):
+        fields = dict(base_sequence=sequence)
+        fields["crc"] = sum_over_itself(of_records(record_of(), **fields), start)
+        if fields["crc"] is not None:
+            data = of_records(record_of(), **fields)
+            assert crc32c(data[start:]) == fields["crc"]
+            return data
+
+
+def batches_checksum(text):
+    """Right over place 21 to the batch's end, and over nothing else."""
+    text.heading("batches, checksum")
+    data = of_records(record_of())
+    for bit in (0, 7, 8, 16, 31):
+        batch(text, CHECKSUM_DIFFERS, flipped(data, BEFORE_CRC + bit // 8, bit % 8))
+    for place in (21, 22, 23, 27, 35, 43, 51, 53, 60, 61, len(data) - 1):
+        batch(text, CHECKSUM_DIFFERS, flipped(data, place, place % 8))
+    for place in (0, 3, 7, 12, 15):
+        batch(text, ACCEPTED, flipped(data, place, place % 8))
+    batch(text, ACCEPTED, data + b"\xff", start=len(data))
+    batch(text, CHECKSUM_DIFFERS, flipped(data, 30) + bytes(1), start=len(data))
+    right = data[BEFORE_CRC:CHECKED]
+    other = zlib.crc32(data[CHECKED:]).to_bytes(4, "big")
+    for wrong in (right[::-1], bytes(4), b"\xff" * 4, bytes(b ^ 0xFF for b in right), other):
+        batch(text, CHECKSUM_DIFFERS, data[:BEFORE_CRC] + wrong + data[CHECKED:])
+    for start in (0, UNCOUNTED, BEFORE_CRC):
+        batch(text, CHECKSUM_DIFFERS, summed_from(start))
+    for checked in (
+        data[12:17] + data[21:], data[12:17] + bytes(4) + data[21:], bytes(4) + data[21:], data[21:-1], data[22:],
+        data[21:61],
+    ):
+        batch(text, CHECKSUM_DIFFERS, of_records(record_of(), crc=crc32c(checked)))
+    for tail in (b"\0", b"\xff\xff"):
+        batch(text, CHECKSUM_DIFFERS, of_records(record_of(), crc=crc32c(data[21:] + tail)) + tail)
+
+
+def batches_order(text):
+    """Two faults or more: the first in reading order is given."""
+    text.heading("batches, order")
+    for codec in (5, 6, 7):
+        batch(text, UNKNOWN_CODEC, batch_of(attributes=codec))
+    batch(text, CHECKSUM_DIFFERS, batch_of(attributes=5, crc=0))
+    batch(text, UNKNOWN_CODEC, batch_of(attributes=5, upto=2), start=23)
+    batch(text, UNKNOWN_CODEC, batch_of(attributes=5, count=-2))
+    batch(text, UNKNOWN_CODEC, marker(attributes=CONTROL + 5, count=3))
+    for codec in (1, 2, 3, 4):
+        batch(text, COMPRESSED, batch_of(attributes=codec))
+        batch(text, WRONG_COUNT, batch_of(attributes=codec, count=-2))
+    for count in (-1, 1, 3):
+        batch(text, COMPRESSED, batch_of(b"\xff" * 6, attributes=1, count=count))
+    batch(text, CHECKSUM_DIFFERS, batch_of(attributes=1, crc=0))
+    for count, expected in ((3, COMPRESSED), (-1, COMPRESSED), (1, COMPRESSED), (-2, WRONG_COUNT)):
+        batch(text, expected, marker(attributes=CONTROL + 1, count=count))
+    for count in (-2, -3, -256, -2 ** 31):
+        batch(text, WRONG_COUNT, batch_of(count=count))
+        batch(text, WRONG_COUNT, batch_of(b"\xff", count=count))
+    batch(text, WRONG_COUNT, batch_of(b"\xff", count=-2), start=62)
+
+
+def batches_control(text):
+    """A marker alone, its count 1."""
+    text.heading("batches, control")
+    for body in (ABORT, COMMIT):
+        for room in ((0, 0), (7, 3), ROOM):
+            batch(text, ACCEPTED, marker(body), room=room)
+        for more in (b"\0", b"\xff", body):
+            batch(text, BYTES_LEFT, marker(body + more))
+        for upto in range(4):
+            batch(text, PAST_END, marker(body[:upto]))
+    for count in (-1, 0, 2, 257, 2 ** 31 - 1, -2, -2 ** 31):
+        batch(text, WRONG_COUNT, marker(count=count))
+    batch(text, WRONG_COUNT, marker(b"", count=0))
+    batch(text, WRONG_COUNT, marker(b"\0\1", count=2))
+    for version in ("0001", "0100", "FFFF", "8000", "0002"):
+        for more in ("", "0000"):
+            batch(text, UNKNOWN_CONTROL, marker(bytes.fromhex(version + more)))
+    batch(text, PAST_END, marker(b"\1"))
+    for kind in ("0002", "0003", "0100", "0101", "8000", "8001", "FFFF"):
+        batch(text, UNKNOWN_CONTROL, marker(bytes.fromhex("0000" + kind)))
+    batch(text, UNKNOWN_CONTROL, marker(bytes.fromhex("0000000200")))
+    # the marker as the key of a record
+    batch(text, UNKNOWN_CONTROL, marker(record_of(key_length="08", key="00000001", **NO_HEADER)))
+    batch(text, UNKNOWN_CONTROL, marker(bytes.fromhex(RECORD_ROWS[0][0])))
+
+
+def batches_records(text):
+    """Records and their faults; a batch that refuses them has the same answer whatever follows it."""
+    text.heading("batches, records")
+    none, one = bytes.fromhex(RECORD_ROWS[0][0]), record_of()
+    parts = three_records()
+    for several in ([none], [one], [none, none], [one, none], parts[:2], parts[1:], parts, parts[::-1]):
+        batch(text, ACCEPTED, of_records(*several))
+    for key in (NULL, EMPTY):
+        for value in (NULL, EMPTY):
+            batch(text, ACCEPTED, of_records(record_of(key_length=key, key="", value_length=value, value="")))
+    batch(text, ACCEPTED, of_records(with_headers(pair(b""), pair("\u20ac".encode(), b"\xff"))))
+    for timestamp, offset in ((-2 ** 63, 2 ** 31 - 1), (2 ** 63 - 1, -2 ** 31)):
+        batch(text, ACCEPTED, of_records(record_of(timestamp=varying(timestamp).hex(), offset=varying(offset).hex())))
+    for count, expected in ((0, BYTES_LEFT), (-1, BYTES_LEFT), (2, BYTES_LEFT), (4, PAST_END), (2 ** 31 - 1, PAST_END)):
+        batch(text, expected, of_records(*parts, count=count))
+    for count in (1, 2 ** 31 - 1):
+        batch(text, PAST_END, batch_of(count=count))
+    for count in (0, -1):
+        batch(text, BYTES_LEFT, batch_of(b"\0", count=count))
+    for fault, expected in RECORD_FAULTS:
+        batch(text, expected, of_records(bytes.fromhex(fault)))
+    data = of_records(one)
+    for end in (61, 62, 63, 70, len(data) - 1):
+        cut = batch_of(data[BODY:end], count=1)
+        batch(text, PAST_END, cut + data[end:], start=len(cut))
+    batch(text, BYTES_LEFT, of_records(bytes.fromhex(RECORD_NAMES_100)) + bytes(100), start=69)
+
+
+def batches_room(text):
+    """Rows enough and one fewer, with a remainder; and faults, whatever the room."""
+    text.heading("batches, room")
+    one = of_records(with_headers(pair(b"a", b"b")))
+    for more in (0, 1, 3, 7):
+        batch(text, ACCEPTED, one, room=(8 + more, 4 + more % 4))
+    for room in ((7, 4), (8, 3), (7, 3), (0, 4), (8, 0), (0, 0)):
+        batch(text, NO_ROOM, one, room=room)
+    parts = three_records()
+    three = of_records(*parts)
+    for room in ((24, 12), (31, 12), (24, 15), (64, 64)):
+        batch(text, ACCEPTED, three, room=room)
+    for room in ((23, 12), (16, 64), (24, 11), (64, 8), (23, 11), (16, 8), (0, 0)):
+        batch(text, NO_ROOM, three, room=room)
+    batch(text, NO_ROOM, three + three, room=(23, 64), start=len(three))
+    for room, expected in (((0, 0), NO_ROOM), ((7, 0), NO_ROOM), ((8, 0), ACCEPTED)):
+        batch(text, expected, of_records(bytes.fromhex(RECORD_ROWS[1][0])), room=room)
+    batch(text, ACCEPTED, batch_of(), room=(0, 0))
+    for expected, fault in {number: fault for fault, number in RECORD_FAULTS}.items():
+        batch(text, expected, of_records(*parts[:2], bytes.fromhex(fault)), room=(0, 0))
+    batch(text, BYTES_LEFT, of_records(*parts, b"\0", count=3), room=(0, 0))
+    batch(text, MORE_BYTES, three[:-1], room=(0, 0))
+    batch(text, CHECKSUM_DIFFERS, flipped(three, 40), room=(0, 0))
+
+
+def batches_followed(text):
+    """Each start of a batch, and more behind it than the batch."""
+    text.heading("batches, followed")
+    records_batch, empty, commit = of_records(*three_records()), batch_of(), marker(COMMIT)
+    for data in (records_batch, empty, commit):
+        for tail in (bytes(3), b"\xff" * 17, b"\2", empty, commit):
+            batch(text, ACCEPTED, data + tail, start=len(data))
+    for data, expected in (
+        (batch_of(crc=1), CHECKSUM_DIFFERS), (batch_of(attributes=7), UNKNOWN_CODEC),
+        (batch_of(attributes=3), COMPRESSED), (batch_of(count=-2), WRONG_COUNT), (batch_of(count=1), PAST_END),
+        (marker(bytes(3)), PAST_END), (marker(b"\0\1"), UNKNOWN_CONTROL), (marker(bytes(5)), BYTES_LEFT),
+        (batch_of(bytes(1)), BYTES_LEFT),
+    ):
+        batch(text, expected, data + ABORT, start=len(data))
+
+
+def record_times(text):
+    text.heading("record times")
+    least, greatest = -2 ** 63, 2 ** 63 - 1
+    assert 1000 + -1 == 999
+    edges = (0, 1, -1, 1000, least, greatest, different(8, 1), -different(8, 0x71))
+    for first in edges:
+        for delta in edges:
+            time = first + delta
+            text.case("time", first, delta, *([time] if least <= time <= greatest else []))
+
+
+def batch_sizes(text):
+    text.heading("batch sizes")
+    for length in (
+        -2 ** 31, -2 ** 31 + 1, -13, -12, -11, -1, 0, 1, 8, 9, 48, 49, 53, 255, 256, different(4, 1), 2 ** 31 - 13,
+        2 ** 31 - 12, 2 ** 31 - 1,
+    ):
+        text.case("total", length, UNCOUNTED + length)
+
+
 def main():
     text = Text()
     document_rows(text)
@@ -725,7 +1193,19 @@ def main():
     records_headers(text)
     records_several(text)
     records_room(text)
-    print("\n".join(text.lines))
+    batches_examples(text)
+    batches_lengths(text)
+    batches_cut(text)
+    batches_fields(text)
+    batches_checksum(text)
+    batches_order(text)
+    batches_control(text)
+    batches_records(text)
+    batches_room(text)
+    batches_followed(text)
+    record_times(text)
+    batch_sizes(text)
+    print(text.parts(), end="")
 
 
 main()

@@ -1,4 +1,5 @@
 // One case: what its line expects, held to what the library answers.
+use crate::batch;
 use crate::characters;
 use crate::characters::AROUND;
 use crate::checksums;
@@ -14,6 +15,7 @@ use crate::text::same;
 use crate::text::unsigned;
 use crate::text::word;
 use crate::text::words;
+use crate::times;
 use crate::writing;
 
 // The first word says what a case is about. A line that is no case agrees with nothing. Bytes are put into space.
@@ -30,6 +32,12 @@ pub fn agrees(line: &[u8], space: &mut [u8]) -> bool {
     }
     if same(first, b"utf8") {
         return judged(line, space);
+    }
+    if same(first, b"time") {
+        return timed(line);
+    }
+    if same(first, b"total") {
+        return totalled(line);
     }
     read(line, first, space)
 }
@@ -113,6 +121,40 @@ fn judged(line: &[u8], space: &mut [u8]) -> bool {
     same(verdict, b"0") && characters::judges(space, count, false)
 }
 
+// time FIRST DELTA [TIME]
+fn timed(line: &[u8]) -> bool {
+    let Number::Is(first) = decimal(word(line, 1)) else {
+        return false;
+    };
+    let Number::Is(delta) = decimal(word(line, 2)) else {
+        return false;
+    };
+    if words(line) == 3 {
+        return times::has_no_time(first, delta);
+    }
+    if words(line) != 4 {
+        return false;
+    }
+    let Number::Is(time) = decimal(word(line, 3)) else {
+        return false;
+    };
+    times::has_time(first, delta, time)
+}
+
+// total LENGTH TOTAL
+fn totalled(line: &[u8]) -> bool {
+    if words(line) != 3 {
+        return false;
+    }
+    let Number::Is(length) = decimal(word(line, 1)) else {
+        return false;
+    };
+    let Number::Is(total) = decimal(word(line, 2)) else {
+        return false;
+    };
+    times::totals(length, total)
+}
+
 // KIND HEX .., where KIND may have @K after it
 fn read(line: &[u8], first: &[u8], space: &mut [u8]) -> bool {
     let n = before(first, b'@');
@@ -125,10 +167,20 @@ fn read(line: &[u8], first: &[u8], space: &mut [u8]) -> bool {
     if space.len() < count {
         return false;
     }
-    if same(&first[..n], b"records") {
-        return tables::agree(&space[..count], at, line);
+    answered(&first[..n], &space[..count], at, line)
+}
+
+fn answered(kind: &[u8], s: &[u8], at: usize, line: &[u8]) -> bool {
+    if same(kind, b"records") {
+        return tables::agree(s, at, line);
     }
-    reading::read(&first[..n], &space[..count], at).same(expected(line))
+    if same(kind, b"batch") {
+        return at == 0 && batch::agrees(s, line);
+    }
+    if same(kind, b"cuts") {
+        return batch::agrees_cut(s, at, line);
+    }
+    reading::read(kind, s, at).same(expected(line))
 }
 
 // The suffix is empty or starts with @.

@@ -6,8 +6,8 @@ use crate::text::starts_with;
 ghost use Prim.Native.Nat.{_≤_};
 ghost use lib.ListN.{length};
 
-// Prints a line for each group. Cases before the first heading belong to none, and all count as differing. A text with
-// no case counts as one that differs.
+// Prints a line for each group of one part of the text. Cases before the first heading belong to none, and all count as differing. A part
+// with no case counts as one that differs.
 pub fn run(text: &[u8], space: &mut [u8]) -> Tally {
     let mut at = next_heading(text, 0);
     let strays = run_lines(&text[..at], space);
@@ -87,8 +87,9 @@ fn run_lines(lines: &[u8], space: &mut [u8]) -> Tally {
     t
 }
 
+// Empty lines fill a part up.
 fn run_line(t: Tally, line: &[u8], space: &mut [u8]) -> Tally {
-    if starts_with(line, b"#") || is_heading(line) {
+    if line.len() == 0 || starts_with(line, b"#") || is_heading(line) {
         return t;
     }
     t.with(cases::agrees(line, space))

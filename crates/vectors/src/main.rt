@@ -1,6 +1,7 @@
-// Runs the libraries `primitives`, `crc32c`, `utf8` and `records` on cases whose expectations come from elsewhere:
-// those of the text on standard input, and all strings of one byte and of two. It prints a line for each group of
-// cases.
+// Runs the libraries `primitives`, `crc32c`, `utf8`, `records` and `batches` on cases whose expectations come from
+// elsewhere: those of the text on standard input, and all strings of one byte and of two. It prints a line for each group
+// of cases.
+mod batch;
 mod cases;
 mod characters;
 mod checksums;
@@ -11,16 +12,17 @@ mod strings;
 mod tables;
 mod tally;
 mod text;
+mod times;
 mod writing;
 
 use libc::STDIN_FILENO;
 use tally::Tally;
 
+// How many buffers the text may fill.
+const PARTS: usize = 2;
+
 fn main() {
-    let mut text = io::large_buffer();
-    let n = io::read_full(STDIN_FILENO, &mut text);
-    let mut space = io::buffer();
-    let read = whole(groups::run(&text[..n], &mut space), n, text.len());
+    let read = read_parts();
     let one = shown(strings::one_byte(), b"one byte, both widths");
     let two = shown(strings::two_bytes(), b"two bytes, both widths");
     let numbers = one.plus(two);
@@ -29,12 +31,22 @@ fn main() {
     read.plus(numbers).plus(one).plus(two).print(b"all");
 }
 
-// A text that fills its buffer may have been cut: that counts as a case that differs.
-fn whole(t: Tally, n: usize, room: usize) -> Tally {
-    if n < room {
-        return t;
+// The text comes in parts, and each but the last fills the buffer. A last one that fills it too may have been cut: that
+// counts as a case that differs.
+fn read_parts() -> Tally {
+    let mut text = io::large_buffer();
+    let mut space = io::buffer();
+    let mut all = Tally::new();
+    let mut left = PARTS;
+    while 0 < left {
+        let n = io::read_full(STDIN_FILENO, &mut text);
+        all = all.plus(groups::run(&text[..n], &mut space));
+        if n < text.len() {
+            return all;
+        }
+        left -= 1;
     }
-    t.with(false)
+    all.with(false)
 }
 
 fn shown(t: Tally, name: &[u8]) -> Tally {

@@ -14,17 +14,17 @@ use records::check_records;
 use records::read_records;
 
 // How many numbers a table may have.
-const MOST: usize = 64;
+pub const MOST: usize = 64;
 
 // What the record table has before records are read: this number, and one more from place to place. No row of a case
 // has one of them.
-const RECORD_MARK: u32 = 1000000;
+pub const RECORD_MARK: u32 = 1000000;
 
 // The same of the header table.
-const HEADER_MARK: u32 = 2000000;
+pub const HEADER_MARK: u32 = 2000000;
 
 // Document 01's number: all accepted, but there are fewer rows.
-const NO_ROOM: usize = 14;
+pub const NO_ROOM: usize = 14;
 
 // The place, how many records are read, the first header row, and how many numbers each table has.
 struct Question {
@@ -124,7 +124,7 @@ fn told_by(line: &[u8]) -> Told {
 }
 
 // What stands after the first bar; nothing where there is none.
-fn after_bar(s: &[u8]) -> &[u8] {
+pub fn after_bar(s: &[u8]) -> &[u8] {
     let n = before(s, b'|');
     if n < s.len() {
         return &s[n + 1..];
@@ -240,7 +240,7 @@ impl Answer {
     }
 }
 
-fn mark(table: &mut [i64], first: u32) {
+pub fn mark(table: &mut [i64], first: u32) {
     let mut i = 0;
     while i < table.len() {
         let n = (first as usize + i) as i64;
@@ -250,18 +250,23 @@ fn mark(table: &mut [i64], first: u32) {
 }
 
 // Whether a table holds the numbers of some rows, from a row on, and all else is as it was marked.
-fn holds(table: &[i64], mark: u32, row: usize, rows: &[u8]) -> bool {
+pub fn holds(table: &[i64], mark: u32, row: usize, rows: &[u8]) -> bool {
     let mut i = 0;
     while i < table.len() {
-        let Number::Is(n) = due(i, (mark as usize + i) as u64, row, rows) else {
-            return false;
-        };
-        if !Integer::from_i64(table[i]).same(n) {
+        if !is_due(table[i], i, (mark as usize + i) as u64, row, rows) {
             return false;
         }
         i += 1;
     }
     true
+}
+
+// Whether a number is the one due at a place.
+pub fn is_due(n: i64, at: usize, mark: u64, row: usize, rows: &[u8]) -> bool {
+    match due(at, mark, row, rows) {
+        Number::Is(expected) => Integer::from_i64(n).same(expected),
+        Number::Malformed => false,
+    }
 }
 
 // The number that the rows have at a place of the table, or the mark. A header row is four numbers; the rows of records

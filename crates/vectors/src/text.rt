@@ -62,10 +62,15 @@ pub fn words(line: &[u8]) -> usize {
 
 // The word that has k words before it. It is empty where the line has no such word.
 pub fn word(line: &[u8], k: usize) -> &[u8] {
-    let start = word_start(line, k);
-    let rest = &line[start..];
+    let rest = words_from(line, k);
     let n = before(rest, b' ');
     &rest[..n]
+}
+
+// The same with all that stands after it.
+pub fn words_from(line: &[u8], k: usize) -> &[u8] {
+    let start = word_start(line, k);
+    &line[start..]
 }
 
 // The number that a word spells: digits, with a minus in front where it is negative. One that 64 bits do not hold is

@@ -54,53 +54,23 @@ same-length-2 c = search needs
 returns-3 : tie.Need-returns-3
 returns-3 c = search needs
 
-slice-aggregate-same : tie.Need-slice-aggregate-same
-slice-aggregate-same c = search needs
+slice-aggregate-answered : tie.Need-slice-aggregate-answered
+slice-aggregate-answered c = search needs
 
-slice-aggregate-same-2 : tie.Need-slice-aggregate-same-2
-slice-aggregate-same-2 c = search needs
+slice-reshare-prefix-answered : tie.Need-slice-reshare-prefix-answered
+slice-reshare-prefix-answered c = search needs
 
-same-requires : tie.Need-same-requires
-same-requires c κs = search needs
+slice-aggregate-answered-2 : tie.Need-slice-aggregate-answered-2
+slice-aggregate-answered-2 c = simp length-take (omega arith)
 
-slice-reshare-prefix-agree : tie.Need-slice-reshare-prefix-agree
-slice-reshare-prefix-agree c = search needs
-
-slice-aggregate-agree : tie.Need-slice-aggregate-agree
-slice-aggregate-agree c = simp length-take (omega arith)
-
-agree-requires : tie.Need-agree-requires
-agree-requires c κs = search needs
+answered-requires : tie.Need-answered-requires
+answered-requires c κs = search needs
 
 same-length-3 : tie.Need-same-length-3
 same-length-3 c = search needs
 
 returns-4 : tie.Need-returns-4
 returns-4 c = search needs
-
-slice-aggregate-read : tie.Need-slice-aggregate-read
-slice-aggregate-read c = search needs
-
-slice-reshare-prefix-read : tie.Need-slice-reshare-prefix-read
-slice-reshare-prefix-read c = search needs
-
-slice-aggregate-read-2 : tie.Need-slice-aggregate-read-2
-slice-aggregate-read-2 c = simp length-take (omega arith)
-
-read-requires : tie.Need-read-requires
-read-requires c κs = search needs
-
-expected-requires : tie.Need-expected-requires
-expected-requires c κs = search needs
-
-same-requires-2 : tie.Need-same-requires-2
-same-requires-2 c κs = search needs
-
-same-length-4 : tie.Need-same-length-4
-same-length-4 c = search needs
-
-returns-5 : tie.Need-returns-5
-returns-5 c = search needs
 
 pub read-spec : {M : Type 1} → statement M
 read-spec =
@@ -122,19 +92,9 @@ read-spec =
     returns-2
     same-length-2
     returns-3
-    slice-aggregate-same
-    slice-aggregate-same-2
-    same-requires
-    slice-reshare-prefix-agree
-    slice-aggregate-agree
-    agree-requires
+    slice-aggregate-answered
+    slice-reshare-prefix-answered
+    slice-aggregate-answered-2
+    answered-requires
     same-length-3
-    returns-4
-    slice-aggregate-read
-    slice-reshare-prefix-read
-    slice-aggregate-read-2
-    read-requires
-    expected-requires
-    same-requires-2
-    same-length-4
-    returns-5)
+    returns-4)

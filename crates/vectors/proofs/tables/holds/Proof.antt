@@ -15,35 +15,20 @@ abbrev μ-loop : tie.MeasureT-loop
 loop-holds : tie.Need-loop-holds Inv-loop μ-loop
 loop-holds c = search needs
 
-add-due : tie.Need-add-due Inv-loop μ-loop
-add-due c = search needs
+mul-is-due : tie.Need-mul-is-due Inv-loop μ-loop
+mul-is-due c = search needs
 
-due-requires : tie.Need-due-requires Inv-loop μ-loop
-due-requires c κs = search needs
+shared-slice-copy-out-is-due : tie.Need-shared-slice-copy-out-is-due Inv-loop μ-loop
+shared-slice-copy-out-is-due c = search needs
 
-enum-known-n : tie.Need-enum-known-n Inv-loop μ-loop
-enum-known-n c = search needs
+add-is-due : tie.Need-add-is-due Inv-loop μ-loop
+add-is-due c = search needs
 
-enum-told : tie.Need-enum-told Inv-loop μ-loop
-enum-told c = search needs
+is-due-requires : tie.Need-is-due-requires Inv-loop μ-loop
+is-due-requires c κs = search needs
 
 returns : tie.Need-returns Inv-loop μ-loop
 returns c = search needs
-
-mul-from-i64 : tie.Need-mul-from-i64 Inv-loop μ-loop
-mul-from-i64 c = search needs
-
-shared-slice-copy-out-from-i64 : tie.Need-shared-slice-copy-out-from-i64 Inv-loop μ-loop
-shared-slice-copy-out-from-i64 c = search needs
-
-from-i64-requires : tie.Need-from-i64-requires Inv-loop μ-loop
-from-i64-requires c κs = search needs
-
-same-requires : tie.Need-same-requires Inv-loop μ-loop
-same-requires c κs = search needs
-
-returns-2 : tie.Need-returns-2 Inv-loop μ-loop
-returns-2 c = search needs
 
 add-i : tie.Need-add-i Inv-loop μ-loop
 add-i c = search needs
@@ -54,8 +39,8 @@ loop-less c = search needs
 loop-again : tie.Need-loop-again Inv-loop μ-loop
 loop-again c = search needs
 
-returns-3 : tie.Need-returns-3 Inv-loop μ-loop
-returns-3 c = search needs
+returns-2 : tie.Need-returns-2 Inv-loop μ-loop
+returns-2 c = search needs
 
 pub holds-spec : {M : Type 1} → statement M
 holds-spec =
@@ -64,17 +49,12 @@ holds-spec =
     Inv-loop
     μ-loop
     loop-holds
-    add-due
-    due-requires
-    enum-known-n
-    enum-told
+    mul-is-due
+    shared-slice-copy-out-is-due
+    add-is-due
+    is-due-requires
     returns
-    mul-from-i64
-    shared-slice-copy-out-from-i64
-    from-i64-requires
-    same-requires
-    returns-2
     add-i
     loop-less
     loop-again
-    returns-3)
+    returns-2)
