@@ -1,6 +1,6 @@
 -- The fields under the checksum, as they are read one after the other, are the judgement's: each stands where the one
 -- before it ended, and what is missing is missing for both. Assumes nothing.
-use Prim.Native.Nat.{ℕ, _+_, _%_, _≤_, _<_}
+use Prim.Native.Nat.{ℕ, _+_, _-_, _*_, _%_, _^_, _≤_, _<_}
 use mathlib.Core.Path.{_≡_, _∙_}
 use mathlib.Core.List.{List}
 use native.Mathlib.Omega.{arith}
@@ -8,13 +8,41 @@ use native.Mathlib.Decide.{decLt}
 use borrow.Author.Tests.{lt-ltb, le-ltb}
 use lib.IntN.{ℤ}
 use lib.ListN.{length}
-use Rattle.primitives.specs.Step.{ok, no, mapStep}
+use Rattle.primitives.specs.Step.{Step, ok, no, andThen, mapStep}
+use Rattle.primitives.specs.Reading.{big, signedBy, integerAt}
 use Rattle.batches.specs.declared.Times.{Times}
 use Rattle.batches.specs.declared.Producer.{Producer}
 use Rattle.batches.specs.Table.{table}
 use Rattle.batches.specs.Judgement.{numberIn, unsignedIn, attributesIn, countOf, openedAt}
 use Rattle.batches.specs.Opening.{attributesAt, timesAt, producerAt, countAt, Known, fieldsBeside, checkedAt}
 use Rattle.primitives.proofs.Values.{unsigned-there, unsigned-gone, integer-there, integer-gone}
+
+-- ---- three integers, one after the other
+
+module _ {A : Type 0} (l m n : ℕ) (f : ℤ → ℤ → ℤ → A) (s : List ℕ) (p q r t : ℕ) (e : q ≡ p + l) (e′ : r ≡ q + m) (e″ : t ≡ r + n) where
+  abbrev three : Step ℕ A
+  three = andThen (integerAt l s p) (λ a i. andThen (integerAt m s i) (λ b j. mapStep (f a b) (integerAt n s j)))
+
+  three-there : t ≤ length s
+      → three ≡ ok (f (signedBy (2 ^ (8 * l - 1)) (big l s p)) (signedBy (2 ^ (8 * m - 1)) (big m s q)) (signedBy (2 ^ (8 * n - 1)) (big n s r))) t
+  three-there h = rw (integer-there l s p q e (omega arith), integer-there m s q r e′ (omega arith), integer-there n s r t e″ h)
+
+  three-gone : length s < t → three ≡ no 8
+  three-gone h =
+      elim (decLt (length s) q) [
+        | yes g ↦ rw (integer-gone l s p q e g)
+        | Dec.no g ↦
+            elim (decLt (length s) r) [
+              | yes i ↦ rw (integer-there l s p q e (omega arith), integer-gone m s q r e′ i)
+              | Dec.no i ↦ rw (integer-there l s p q e (omega arith), integer-there m s q r e′ (omega arith), integer-gone n s r t e″ h)
+            ]
+      ]
+
+abbrev timesOf : ℤ → ℤ → ℤ → Times
+timesOf delta first max = record { «last_offset_delta» = delta; «first_timestamp» = first; «max_timestamp» = max }
+
+abbrev producerOf : ℤ → ℤ → ℤ → Producer
+producerOf id epoch sequence = record { id = id; epoch = epoch; «base_sequence» = sequence }
 
 module _ (s : List ℕ) (at : ℕ) where
   -- ---- each group of fields
@@ -33,80 +61,26 @@ module _ (s : List ℕ) (at : ℕ) where
     attributes-there c = rw (unsigned-there 2 s (at + 21) (at + 23) (omega arith) h, le-ltb 4 (unsignedIn (table .attributes) s at % 8) c)
 
   times : Times
-  times =
-      record {
-        «last_offset_delta» = numberIn (table .lastOffsetDelta) s at;
-        «first_timestamp» = numberIn (table .firstTimestamp) s at;
-        «max_timestamp» = numberIn (table .maxTimestamp) s at;
-      }
+  times = timesOf (numberIn (table .lastOffsetDelta) s at) (numberIn (table .firstTimestamp) s at) (numberIn (table .maxTimestamp) s at)
 
   times-there : at + 43 ≤ length s → timesAt s (at + 23) ≡ ok times (at + 43)
   unfolding timesAt times
-  times-there h =
-      rw (
-        integer-there 4 s (at + 23) (at + 27) (omega arith) (omega arith),
-        integer-there 8 s (at + 27) (at + 35) (omega arith) (omega arith),
-        integer-there 8 s (at + 35) (at + 43) (omega arith) h,
-      )
+  times-there h = three-there 4 8 8 timesOf s (at + 23) (at + 27) (at + 35) (at + 43) (omega arith) (omega arith) (omega arith) h
 
   times-gone : length s < at + 43 → timesAt s (at + 23) ≡ no 8
   unfolding timesAt
-  times-gone h =
-      elim (decLt (length s) (at + 27)) [
-        | yes g ↦ rw (integer-gone 4 s (at + 23) (at + 27) (omega arith) g)
-        | Dec.no g ↦
-            elim (decLt (length s) (at + 35)) [
-              | yes i ↦
-                  rw (
-                    integer-there 4 s (at + 23) (at + 27) (omega arith) (omega arith),
-                    integer-gone 8 s (at + 27) (at + 35) (omega arith) i,
-                  )
-              | Dec.no i ↦
-                  rw (
-                    integer-there 4 s (at + 23) (at + 27) (omega arith) (omega arith),
-                    integer-there 8 s (at + 27) (at + 35) (omega arith) (omega arith),
-                    integer-gone 8 s (at + 35) (at + 43) (omega arith) h,
-                  )
-            ]
-      ]
+  times-gone h = three-gone 4 8 8 timesOf s (at + 23) (at + 27) (at + 35) (at + 43) (omega arith) (omega arith) (omega arith) h
 
   producer : Producer
-  producer =
-      record {
-        id = numberIn (table .producerId) s at;
-        epoch = numberIn (table .producerEpoch) s at;
-        «base_sequence» = numberIn (table .baseSequence) s at;
-      }
+  producer = producerOf (numberIn (table .producerId) s at) (numberIn (table .producerEpoch) s at) (numberIn (table .baseSequence) s at)
 
   producer-there : at + 57 ≤ length s → producerAt s (at + 43) ≡ ok producer (at + 57)
   unfolding producerAt producer
-  producer-there h =
-      rw (
-        integer-there 8 s (at + 43) (at + 51) (omega arith) (omega arith),
-        integer-there 2 s (at + 51) (at + 53) (omega arith) (omega arith),
-        integer-there 4 s (at + 53) (at + 57) (omega arith) h,
-      )
+  producer-there h = three-there 8 2 4 producerOf s (at + 43) (at + 51) (at + 53) (at + 57) (omega arith) (omega arith) (omega arith) h
 
   producer-gone : length s < at + 57 → producerAt s (at + 43) ≡ no 8
   unfolding producerAt
-  producer-gone h =
-      elim (decLt (length s) (at + 51)) [
-        | yes g ↦ rw (integer-gone 8 s (at + 43) (at + 51) (omega arith) g)
-        | Dec.no g ↦
-            elim (decLt (length s) (at + 53)) [
-              | yes i ↦
-                  rw (
-                    integer-there 8 s (at + 43) (at + 51) (omega arith) (omega arith),
-                    integer-gone 2 s (at + 51) (at + 53) (omega arith) i,
-                  )
-              | Dec.no i ↦
-                  rw (
-                    integer-there 8 s (at + 43) (at + 51) (omega arith) (omega arith),
-                    integer-there 2 s (at + 51) (at + 53) (omega arith) (omega arith),
-                    integer-gone 4 s (at + 53) (at + 57) (omega arith) h,
-                  )
-            ]
-      ]
+  producer-gone h = three-gone 8 2 4 producerOf s (at + 43) (at + 51) (at + 53) (at + 57) (omega arith) (omega arith) (omega arith) h
 
   count-there : at + 61 ≤ length s → countAt (attributesIn s at) s (at + 57) ≡ countOf (attributesIn s at) (numberIn (table .count) s at) (at + 61)
   unfolding countAt

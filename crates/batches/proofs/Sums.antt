@@ -7,7 +7,7 @@ use mathlib.Core.Option.{none, some}
 use native.Mathlib.Omega.{arith}
 use native.Mathlib.Decide.{decLt}
 use borrow.Author.Tests.{ltb-true, leb-false, lt-ltb, le-ltb, le-leb, lt-leb, not-true, not-false}
-use lib.Dec.{T, leb, ltb}
+use lib.Dec.{T, leb, ltb, lit≤}
 use lib.IntN.{ℤ, pos, negsuc, subℕ, _+ℤ_, _-ℤ_, natAbs}
 use lib.Signed.{mag, leZ, nonNeg}
 use mir.Syntax.{w32, w64}
@@ -21,12 +21,12 @@ use Rattle.batches.specs.Time.{in64, recordTime}
 
 -- ---- 12 and batchLength
 
-sum-fits : (n : ℤ) → SFits w32 n → SFits w64 (pos uncounted +ℤ n)
-sum-fits (pos m) f = record { sfits = omega (arith, f .sfits) }
-sum-fits (negsuc k) f =
-    elim (decLt 12 (suc k)) [
-      | yes h ↦ rw (lt-ltb 12 (suc k) h) (record { sfits = omega (arith, f .sfits) })
-      | no h ↦ rw (le-ltb 12 (suc k) (omega arith)) (record { sfits = omega (arith, f .sfits) })
+sum-fits : (k : ℕ) → k ≤ 2 ^ 32 → (n : ℤ) → SFits w32 n → SFits w64 (pos k +ℤ n)
+sum-fits k h (pos m) f = record { sfits = omega (arith, f .sfits) }
+sum-fits k h (negsuc j) f =
+    elim (decLt k (suc j)) [
+      | yes l ↦ rw (lt-ltb k (suc j) l) (record { sfits = omega (arith, f .sfits) })
+      | no l ↦ rw (le-ltb k (suc j) (omega arith)) (record { sfits = omega (arith, f .sfits) })
     ]
 
 module _ (n : ℤ) (f : SFits w32 n) where
@@ -36,11 +36,11 @@ module _ (n : ℤ) (f : SFits w32 n) where
   pub total-widens : SFits w64 (toZ w32 (ofZ w32 n))
   total-widens = widen-fits w32 w64 n (omega arith) f
 
-  pub total-fits : SFits w64 (pos uncounted +ℤ toZ w64 (ofZ w64 (toZ w32 (ofZ w32 n))))
-  total-fits = rw wide-is (sum-fits n f)
+  pub total-fits : (k : ℕ) → k ≤ 2 ^ 32 → SFits w64 (pos k +ℤ toZ w64 (ofZ w64 (toZ w32 (ofZ w32 n))))
+  total-fits k h = rw wide-is (sum-fits k h n f)
 
   pub total-back : toZ w64 (ofZ w64 (pos uncounted +ℤ toZ w64 (ofZ w64 (toZ w32 (ofZ w32 n))))) ≡ pos uncounted +ℤ n
-  total-back = rw wide-is (toZ-ofZ w64 (pos uncounted +ℤ n) (sum-fits n f))
+  total-back = rw wide-is (toZ-ofZ w64 (pos uncounted +ℤ n) (sum-fits uncounted (lit≤ tt) n f))
 
 -- the sum is a natural number where batchLength is one
 pub record Natural (y : ℤ) (n : ℕ) : Type 0 where

@@ -4,7 +4,7 @@
 -- The words that are used: `judge` (Judgement.antt) is what document 01 answers where rows are enough, which is demand
 -- 2's answer (Statements.antt joins it to Kafka's format). `ReadPromise` (Promises.antt) is what `RecordBatch::read`
 -- promises on some bytes and some tables: its result, and both tables at exit. A result says document 01's number and
--- the values named with it (`viewRead`, Answers.antt). A longer beginning is `s ++ more`.
+-- the values named with it (`viewRead`, Answers.antt). A longer beginning is `s ++ after`.
 --
 -- Each sentence is a statement of a judging function, and is then claimed for `judge`, the public reader's, and for
 -- every way of reading control batches, every place of the batch's first byte and every row of its first header. (Where a

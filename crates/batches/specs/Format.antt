@@ -80,12 +80,12 @@ ContentBytes strict bs (records rs) = RecordsBytes strict bs rs
 -- Kafka, message format, record batch. The checksum is over all that follows it, batchLength is the number of bytes
 -- that follow it.
 pub record BatchBytes (strict : Bool) (bs : List ℕ) (b : Batch Record) : Type 0 where
-  pub part : FixedFields (List ℕ)
-  pub body : List ℕ
-  pub checked : List ℕ
-  pub counted : List ℕ
-  pub higher : ℕ
-  pub count : ℤ
+  pub part : FixedFields (List ℕ)  -- the bytes of each fixed field
+  pub body : List ℕ  -- what follows them
+  pub checked : List ℕ  -- what the checksum is over
+  pub counted : List ℕ  -- what batchLength counts
+  pub higher : ℕ  -- bits 6 and up of the attributes
+  pub count : ℤ  -- the number in the count
   pub is : bs ≡ concat (uncountedFields part) ++ counted
   pub countedIs : counted ≡ concat (uncheckedFields part) ++ checked
   pub checkedIs : checked ≡ concat (checkedFields part) ++ body

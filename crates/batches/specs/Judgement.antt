@@ -41,6 +41,7 @@ unsignedIn f s at = big (f .bytes) s (at + f .place)
 abbrev pub numberIn : Slot → List ℕ → ℕ → ℤ
 numberIn f s at = signedBy (2 ^ (8 * f .bytes - 1)) (unsignedIn f s at)
 
+-- whether a signed number is n, and whether it is below n
 abbrev pub is : ℕ → ℤ → Bool
 is n (pos m) = eqb m n
 is n (negsuc k) = false

@@ -241,6 +241,8 @@ impl RecordBatch {
     pub const FIXED_CHECKED: usize = 40;
     // The whole fixed part.
     pub const FIXED: usize = 61;
+
+    const MAGIC: i8 = 2;
     // The bytes up to the end of the magic.
     const THROUGH_MAGIC: usize = 17;
 
@@ -248,7 +250,7 @@ impl RecordBatch {
     pub fn total_size(batch_length: i32) -> i64
         ensures { λ r. ⌜ TotalSizePromise «batch_length» r ⌝ }
     {
-        12 + batch_length as i64
+        RecordBatch::UNCOUNTED as i64 + batch_length as i64
     }
 
     // What the bytes begin with, by themselves: no table is needed to judge them.
@@ -498,13 +500,13 @@ fn read_frame(s: &[u8], at: usize) -> FrameRead
     match read_lead(s, Cursor { at }) {
         LeadRead::Got(lead, next) => {
             let batch_length = lead.batch_length;
-            if batch_length < 9 {
+            if batch_length < RecordBatch::UNCHECKED as i32 {
                 return FrameRead::Refused(BatchFault::LengthTooSmall);
             }
             let total = RecordBatch::total_size(batch_length) as usize;
             match read_version(s, next) {
                 VersionRead::Got(version, _) => {
-                    if version.magic != 2 {
+                    if version.magic != RecordBatch::MAGIC {
                         return FrameRead::Refused(BatchFault::UnknownMagic);
                     }
                     if s.len() - at < total {
@@ -523,6 +525,11 @@ fn read_frame(s: &[u8], at: usize) -> FrameRead
         }
         LeadRead::Refused(_) => FrameRead::MoreBytes(RecordBatch::UNCOUNTED),
     }
+}
+
+impl Attributes {
+    // The last codec that Kafka's page has.
+    const LAST_CODEC: u8 = 4;
 }
 
 // Bits 0 to 5 are the lower byte's. Higher bits are ignored.
@@ -557,7 +564,7 @@ fn read_attributes(s: &[u8], c: Cursor) -> AttributesRead
     match c.read_int16(s) {
         Int16Read::Got(raw, next) => {
             let attributes = attributes_of(raw);
-            if 4 < attributes.codec {
+            if Attributes::LAST_CODEC < attributes.codec {
                 return AttributesRead::Refused(BatchFault::UnknownCodec);
             }
             AttributesRead::Got(attributes, next)

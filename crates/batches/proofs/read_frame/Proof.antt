@@ -10,6 +10,9 @@ read-lead-requires c κs = search needs
 enum-known-lead : tie.Need-enum-known-lead
 enum-known-lead c = search needs
 
+cast-if1 : tie.Need-cast-if1
+cast-if1 c = search needs
+
 returns : tie.Need-returns
 returns c = search (frame-low, needs)
 
@@ -55,6 +58,7 @@ read-frame-spec =
     (tie.spec
     read-lead-requires
     enum-known-lead
+    cast-if1
     returns
     total-size-requires
     cast-total
