@@ -12,9 +12,10 @@ use lib.ListN.{length}
 use Rattle.records.specs.Judgement.{RecordSpans}
 use Rattle.records.specs.Rows.{headersIn, Tables}
 use Rattle.batches.specs.Batch.{Content, control, records}
-use Rattle.batches.specs.Judgement.{Judgement, more, refused, accepted, Accepted, judgeWith, bareMarkerAt}
-use Rattle.batches.specs.Answers.{Answer, viewRead, wants, refuses, acceptedAs, lacksRoom, recordsIn, headersOf, Rooms, roomsOf, hasRoom, answerOf, stored}
+use Rattle.batches.specs.Judgement.{Judgement, more, refused, accepted, Accepted, judgeWith, bareMarkerAt, judge}
+use Rattle.batches.specs.Answers.{Answer, viewCheck, viewRead, answerWithRoom, wants, refuses, acceptedAs, lacksRoom, recordsIn, headersOf, Rooms, roomsOf, hasRoom, answerOf, stored}
 use Rattle.batches.specs.Promises.{ReadOutcome, ReadBy}
+use Rattle.batches.specs.Statements.{Untouched, CheckAgrees}
 use Rattle.batches.specs.Demand3.{AtLeast, Same, RoomFreeWith, RoomFree}
 use Rattle.primitives.proofs.Picks.{both-hold, one-fails, second-fails}
 use Rattle.batches.proofs.Single.{view-read-injective}
@@ -110,3 +111,23 @@ room-free-with way at first s t t′ o o′ = same-in-any t t′ o o′ (judgeWi
 
 pub room-free : RoomFree
 room-free = room-free-with bareMarkerAt 0 0
+
+-- ---- one outcome
+
+pub untouched : Untouched
+untouched s t o e none = by (judge s) (goes (judge s) t o e)
+  where
+    by : (j : Judgement) → Goes t o j → o .tables ≡ t
+    by _ (wanting a w) = w
+    by _ (refusing a w) = w
+    by _ (roomy h a w) = absurd (none (numbered a))
+    by _ (cramped h a w) = w
+
+pub check-agrees : CheckAgrees
+check-agrees s r t o c e fourteen = by (judge s) (goes (judge s) t o e) c
+  where
+    by : (j : Judgement) → Goes t o j → viewCheck r ≡ answerWithRoom j → viewCheck r ≡ viewRead (o .result)
+    by _ (wanting a w) c = c ∙ sym a
+    by _ (refusing a w) c = c ∙ sym a
+    by _ (roomy h a w) c = c ∙ sym a
+    by _ (cramped h a w) c = absurd (fourteen (numbered a))

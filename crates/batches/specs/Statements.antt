@@ -16,13 +16,14 @@ use Rattle.records.specs.Format.{Record}
 use Rattle.records.specs.Judgement.{RecordSpans}
 use Rattle.records.specs.Rows.{Tables}
 use Rattle.records.specs.Statements.{sizes, total, movedRecord}
+use Rattle.batches.specs.declared.BatchCheck.{BatchCheck}
 use Rattle.batches.specs.Table.{Slot, table, uncounted, unchecked, fixedChecked, fixedPart, uncountedFields, uncheckedFields, checkedFields}
 use Rattle.batches.specs.Batch.{Content, control, records, Batch}
 use Rattle.batches.specs.Format.{ContentBytes, BatchBytes}
 use Rattle.batches.specs.Judgement.{more, refused, accepted, Accepted, Judgement, unsignedIn, numberIn, attributesIn, Control, judgeWith, bareMarkerAt, judgeAt, judge}
 use Rattle.batches.specs.Placed.{placedBatch, shownBatch}
-use Rattle.batches.specs.Answers.{Standing, viewRead}
-use Rattle.batches.specs.Promises.{ReadOutcome, ReadPromise}
+use Rattle.batches.specs.Answers.{Standing, viewCheck, viewRead}
+use Rattle.batches.specs.Promises.{CheckPromise, ReadOutcome, ReadPromise}
 
 -- one exactly where the other
 abbrev pub Exactly : Type 0 → Type 0 → Type 0
@@ -142,6 +143,19 @@ pub record NumbersOf (s : List ℕ) : Type 0 where
 
 abbrev pub Numbers : Type 0
 Numbers = (s : List ℕ) → NumbersOf s
+
+-- ---- tables, and the check
+
+-- Document 01: every refusal changes no table. Whatever is answered but 0, both tables are at exit what they were.
+abbrev pub Untouched : Type 0
+Untouched =
+    (s : List ℕ) (t : Tables) (o : ReadOutcome) → ReadPromise s t o → (viewRead (o .result) .number ≡ 0 → ⊥) → o .tables ≡ t
+
+-- The check answers what the reader answers, unless that is 14.
+abbrev pub CheckAgrees : Type 0
+CheckAgrees =
+    (s : List ℕ) (r : BatchCheck) (t : Tables) (o : ReadOutcome) → CheckPromise s r → ReadPromise s t o
+    → (viewRead (o .result) .number ≡ 14 → ⊥) → viewCheck r ≡ viewRead (o .result)
 
 -- ---- sizes
 
