@@ -21,18 +21,18 @@ use Rattle.batches.specs.declared.RecordBatch.{RecordBatch}
 use Rattle.batches.specs.declared.ControlBatchRecord.{ControlBatchRecord}
 use Rattle.batches.specs.declared.BatchFault.{BatchFault}
 use Rattle.batches.specs.declared.BatchRead.{BatchRead}
+use Rattle.batches.specs.declared.Frame.{Frame}
 use Rattle.batches.specs.declared.Opened.{Opened}
 use Rattle.batches.specs.declared.ControlBatchRecordRead.{ControlBatchRecordRead}
 use Rattle.batches.specs.declared.BatchCheck.{BatchCheck}
 use Rattle.batches.specs.Batch.{Fields, Marker, Content, control, records}
-use Rattle.batches.specs.Table.{table}
-use Rattle.batches.specs.Judgement.{Judged, more, refused, accepted, Judgement, numberIn, totalAt, contentAt, bareMarkerAt, judgeAt}
+use Rattle.batches.specs.Judgement.{Judged, more, refused, accepted, Judgement, totalAt, contentAt, bareMarkerAt, judgeAt}
 use Rattle.batches.specs.Answers.{batchNumberOf, ofRecords, ofMarker, accepts, wants, refuses, viewFields, viewMarker, answerWithRoom}
 use Rattle.batches.specs.Answers as Answers
 use Rattle.batches.specs.Promises.{ReadOutcome, ReadBy}
-use Rattle.batches.specs.Opening.{framed, Known, KnownAt, openingAt, knownAt, openBy, openAt, viewOpened, viewMarkerRead, judgedAs, ofRecordsRead}
-use Rattle.batches.proofs.Tests.{Totals, few, low, short, unknown, lacking, there, totals}
-use Rattle.batches.proofs.Judging.{more-not-accepted, refused-not-accepted, judgedFrom, judge-opened}
+use Rattle.batches.specs.Opening.{frameAt, Known, KnownAt, openingAt, knownAt, openBy, openAt, viewOpened, viewMarkerRead, judgedAs, ofRecordsRead}
+use Rattle.batches.proofs.Tests.{totals}
+use Rattle.batches.proofs.Judging.{total-within, more-not-accepted, refused-not-accepted, judgedFrom, judge-opened}
 use Rattle.batches.proofs.Storing.{reads}
 
 -- ---- all bytes of the batch are there
@@ -46,15 +46,14 @@ known-total total (ok x p) o e = ap totalOf e
     totalOf (accepted y) = y .total
 known-total total (no n) o e = refused-not-accepted e
 
-open-within : (s : List ℕ) (at : ℕ) (y : Judged ℕ) (o : KnownAt) → Totals s at y → openBy s at (framed s at y) ≡ accepted o → at + o .total ≤ length s
-open-within s at y o (few h) e = more-not-accepted e
-open-within s at y o (low h b) e = refused-not-accepted e
-open-within s at y o (short h l n g) e = more-not-accepted e
-open-within s at y o (unknown h l n m) e = refused-not-accepted e
-open-within s at y o (lacking h l n m g) e = more-not-accepted e
-open-within s at y o (there {n} h l m g r) e =
-    let opening = openingAt (numberIn (table .baseOffset) s at) (numberIn (table .partitionLeaderEpoch) s at) (take (at + (12 + n)) s) at in
-    omega (arith, known-total (12 + n) opening o e)
+-- what is opened had a frame, whose bytes are there
+open-from : (s : List ℕ) (at : ℕ) (y : Judged Frame) (o : KnownAt) → openBy s at y ≡ accepted o
+    → (x : Frame) × (y ≡ accepted x) × (x .total ≡ o .total)
+open-from s at (more n) o e = more-not-accepted e
+open-from s at (refused n) o e = refused-not-accepted e
+open-from s at (accepted x) o e =
+    let opening = openingAt (x .«base_offset») (x .«partition_leader_epoch») (take (at + x .total) s) at in
+    (x, refl, known-total (x .total) opening o e)
 
 -- ---- a marker needs no room
 
@@ -106,8 +105,10 @@ module _ (s : List ℕ) (at : ℕ) (a : Opened) (e : viewOpened a ≡ openAt s a
   module _ (b : RecordBatch) (c : Bool) (n : ℕ) (next : Cursor) (total : ℕ) (f : a ≡ Opened.Got b c n next total) where
     pub opened-within : at + total ≤ length s
     opened-within =
-        open-within s at (totalAt s at) (record { known = record { fields = viewFields b; control = c; count = n }; next = next .at; total = total })
-        (totals s at) (sym e ∙ ap viewOpened f)
+        let known : KnownAt = record { known = record { fields = viewFields b; control = c; count = n }; next = next .at; total = total } in
+        let (x, is, w) = open-from s at (frameAt s at) known (sym e ∙ ap viewOpened f) in
+        let within = total-within s at (totalAt s at) x (totals s at) is in
+        omega (arith, w, within .end)
 
     judged-content : (first : ℕ) (y : Step ℕ (Content RecordSpans)) → y ≡ contentAt bareMarkerAt c (take (at + total) s) n (next .at)
         → judgedAs (viewFields b) first total y ≡ judgeAt s at first

@@ -41,7 +41,7 @@ more-not-accepted e = let z : _≡_ {A = ℕ} 0 1 = cc in absurd (omega arith)
 pub refused-not-accepted : {A X : Type 0} {n : ℕ} {a : A} → refused n ≡ accepted a → X
 refused-not-accepted e = let z : _≡_ {A = ℕ} 0 1 = cc in absurd (omega arith)
 
-total-within : (s : List ℕ) (at : ℕ) (y : Judged ℕ) (x : Frame) → Totals s at y → framed s at y ≡ accepted x → Within s at (x .total)
+pub total-within : (s : List ℕ) (at : ℕ) (y : Judged ℕ) (x : Frame) → Totals s at y → framed s at y ≡ accepted x → Within s at (x .total)
 total-within s at y x (few h) e = more-not-accepted e
 total-within s at y x (low h b) e = refused-not-accepted e
 total-within s at y x (short h l n g) e = more-not-accepted e
