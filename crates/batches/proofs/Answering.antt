@@ -32,7 +32,8 @@ use Rattle.batches.specs.Answers as Answers
 use Rattle.batches.specs.Promises.{ReadOutcome, ReadBy}
 use Rattle.batches.specs.Opening.{frameAt, Known, KnownAt, openingAt, knownAt, openBy, openAt, viewOpened, viewMarkerRead, judgedAs, ofRecordsRead}
 use Rattle.batches.proofs.Tests.{totals}
-use Rattle.batches.proofs.Judging.{total-within, more-not-accepted, refused-not-accepted, judgedFrom, judge-opened}
+use Rattle.batches.proofs.Judging.{total-within, judgedFrom, judge-opened}
+use Rattle.batches.proofs.Verdicts.{more-not-accepted, refused-not-accepted}
 use Rattle.batches.proofs.Storing.{reads}
 
 -- ---- all bytes of the batch are there

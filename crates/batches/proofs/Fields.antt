@@ -2,7 +2,7 @@
 -- by its sign, the codec and the control bit. The premises have the form in which a proof finds them. Assumes nothing.
 use Prim.Native.Nat.{ℕ, zero, suc, _+_, _*_, _/_, _%_, _^_, _≤_, _<_}
 use mathlib.Core.Path.{_≡_, refl, sym, ap, _∙_}
-use mathlib.Core.Bool.{Bool, true, false}
+use mathlib.Core.Bool.{Bool, true, false, true≢false, false≢true}
 use mathlib.Core.List.{List}
 use native.Mathlib.Omega.{arith}
 use borrow.Author.Tests.{ltb-true, ltb-false, lt-ltb, le-ltb, ne-eqb, eq-eqb}
@@ -101,7 +101,7 @@ below-none (negsuc k) t = refl
 
 counted : (z : ℤ) → ltZ z (pos 0) ≡ false → T (nonNeg z) × (natAbs z ≡ atLeast0 z)
 counted (pos n) t = (tt, refl)
-counted (negsuc k) t = let z : _≡_ {A = ℕ} 0 1 = cc in absurd (omega arith)
+counted (negsuc k) t = absurd (true≢false t)
 
 module _ (z : ℤ) (f : SFits w32 z) where
   pub none-counted : ltZ (toZ w32 (ofZ w32 z)) (pos 0) ≡ true → 0 ≡ atLeast0 z
@@ -117,7 +117,7 @@ module _ (z : ℤ) (f : SFits w32 z) where
     count-is = rw (toZ-ofZ w32 z f) (counted z (rw (toZ-ofZ w32 z f) at t) .1)
 
 low-count : (a : Judgement.Attributes) (z : ℤ) (p : ℕ) → ltZ z (negsuc 0) ≡ true → no 7 ≡ countOf a z p
-low-count a (pos n) p t = let z : _≡_ {A = ℕ} 0 1 = cc in absurd (omega arith)
+low-count a (pos n) p t = absurd (false≢true t)
 low-count a (negsuc zero) p t = absurd (omega (arith, ltb-true 0 0 t))
 low-count a (negsuc (suc k)) p t = refl
 

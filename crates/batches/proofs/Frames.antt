@@ -2,7 +2,7 @@
 -- the magic and by whether all bytes are there. The premises have the form in which a proof finds them. Assumes nothing.
 use Prim.Native.Nat.{ℕ, _+_, _-_, _*_, _^_, _≤_, _<_}
 use mathlib.Core.Path.{_≡_, refl, sym, ap, _∙_}
-use mathlib.Core.Bool.{true, false}
+use mathlib.Core.Bool.{true, false, true≢false}
 use mathlib.Core.Logic.{inl, inr}
 use mathlib.Core.List.{List}
 use native.Mathlib.Omega.{arith}
@@ -117,7 +117,7 @@ pub record Enough (z : ℤ) : Type 0 where
 
 enough : (z : ℤ) → ltZ z (pos 9) ≡ false → Enough z
 enough (pos n) t = record { n = n; is = refl; enough = ltb-false n 9 t }
-enough (negsuc k) t = let z : _≡_ {A = ℕ} 0 1 = cc in absurd (omega arith)
+enough (negsuc k) t = absurd (true≢false t)
 
 -- ---- what is returned
 

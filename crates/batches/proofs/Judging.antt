@@ -27,6 +27,7 @@ use Rattle.batches.specs.Judgement.{Judged, more, refused, accepted, Jud
 use Rattle.batches.specs.Answers.{batchNumberOf, viewFields}
 use Rattle.batches.specs.Opening.{framed, frameAt, viewFrame, openingAt, viewOpening, knownAt, Known, KnownAt, openBy, openAt, asAccepted, judgedAs}
 use Rattle.primitives.proofs.Windows.{big-window}
+use Rattle.batches.proofs.Verdicts.{more-not-accepted, refused-not-accepted}
 use Rattle.batches.proofs.Tests.{Totals, few, low, short, unknown, lacking, there, totals}
 
 -- ---- all bytes of the batch are there
@@ -34,12 +35,6 @@ use Rattle.batches.proofs.Tests.{Totals, few, low, short, unknown, lack
 pub record Within (s : List ℕ) (at total : ℕ) : Type 0 where
   pub end : at + total ≤ length s
   pub least : 21 ≤ total
-
-pub more-not-accepted : {A X : Type 0} {n : ℕ} {a : A} → more n ≡ accepted a → X
-more-not-accepted e = let z : _≡_ {A = ℕ} 0 1 = cc in absurd (omega arith)
-
-pub refused-not-accepted : {A X : Type 0} {n : ℕ} {a : A} → refused n ≡ accepted a → X
-refused-not-accepted e = let z : _≡_ {A = ℕ} 0 1 = cc in absurd (omega arith)
 
 pub total-within : (s : List ℕ) (at : ℕ) (y : Judged ℕ) (x : Frame) → Totals s at y → framed s at y ≡ accepted x → Within s at (x .total)
 total-within s at y x (few h) e = more-not-accepted e

@@ -26,3 +26,4 @@ mod Storing
 mod Sums
 mod Tests
 pub mod Unambiguous
+mod Verdicts

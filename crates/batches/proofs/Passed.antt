@@ -4,7 +4,6 @@ use mathlib.Core.Path.{_≡_, sym, ap, subst}
 use mathlib.Core.Bool.{true, false}
 use mathlib.Core.Logic.{_⊎_}
 use mathlib.Core.List.{List}
-use native.Mathlib.Omega.{arith}
 use borrow.Author.Tests.{eqb-true}
 use lib.Dec.{eqb}
 use lib.IntN.{pos}
@@ -17,6 +16,7 @@ use Rattle.batches.specs.Table.{table}
 use Rattle.batches.specs.Batch.{Content}
 use Rattle.batches.specs.Judgement.{Judged, more, refused, accepted, Accepted, unsignedIn, numberIn, attributesIn, fieldsIn, Control, contentAt, totalAt, openedAt, wholeAt, judgementOf, judgeWhole, judgeWith}
 use Rattle.primitives.proofs.Picks.{picked}
+use Rattle.batches.proofs.Verdicts.{more-not-accepted, refused-not-accepted}
 use Rattle.batches.proofs.Tests.{Totals, there, totals, Says, Openings, opened, openings}
 
 -- ---- the batch's bytes w, which end where the list ends
@@ -51,13 +51,6 @@ module _ (way : Control) (w : List ℕ) (at : ℕ) where
         (c, open-read n p q (subst (Openings w at) j (openings w at)) (eqb-true _ _ t) l, sym v)
 
 -- ---- the judgement
-
-module _ {A X : Type 0} {a : A} {n : ℕ} where
-  more-not-accepted : more n ≡ accepted a → X
-  more-not-accepted e = let z : _≡_ {A = ℕ} 0 1 = cc in absurd (omega arith)
-
-  refused-not-accepted : refused n ≡ accepted a → X
-  refused-not-accepted e = let z : _≡_ {A = ℕ} 0 1 = cc in absurd (omega arith)
 
 judged : (x : Step ℕ Accepted) {b : Accepted} → judgementOf x ≡ accepted b → (q : ℕ) × (x ≡ ok b q)
 judged (ok a q) {b} e = let w : a ≡ b = cc in (q, ap (λ (a : Accepted). ok a q) w)

@@ -5,7 +5,6 @@ use mathlib.Core.Path.{_≡_, sym, ap, _∙_, subst}
 use mathlib.Core.Bool.{Bool, true, false}
 use mathlib.Core.Logic.{_⊎_, inl, inr}
 use mathlib.Core.List.{List}
-use native.Mathlib.Omega.{arith}
 use native.Mathlib.Decide.{ℕ-discrete}
 use borrow.Author.Tests.{eq-eqb, ne-eqb}
 use lib.ListN.{take, drop}
@@ -16,6 +15,7 @@ use Rattle.records.specs.Judgement.{recordsAt}
 use Rattle.batches.specs.Table.{table}
 use Rattle.batches.specs.Batch.{control, records}
 use Rattle.batches.specs.Judgement.{Judged, more, refused, accepted, Accepted, unsignedIn, attributesIn, fieldsIn, totalAt, openedAt, Control, contentAt, wholeAt, judgementOf, judgeWhole, judgeWith}
+use Rattle.batches.proofs.Verdicts.{more-not-refused, refused-not-accepted}
 use Rattle.batches.proofs.Tests.{Totals, totals, total-is, Openings, openings, opening-is}
 
 -- ---- of the batch's bytes
@@ -68,12 +68,12 @@ pub data Refusal (way : Control) (s : List ℕ) (at : ℕ) : ℕ → Type 0 wher
   sized : {total n : ℕ} → Totals s at (accepted total) → WholeRefusal way (take (at + total) s) at n → Refusal way s at n
 
 judgement-no : (x : Step ℕ Accepted) {n : ℕ} → judgementOf x ≡ refused n → x ≡ no n
-judgement-no (ok b p) e = let z : _≡_ {A = ℕ} 0 1 = cc in absurd (omega arith)
+judgement-no (ok b p) e = refused-not-accepted (sym e)
 judgement-no (no m) {n} e = let w : m ≡ n = cc in ap no w
 
 module _ (way : Control) (s : List ℕ) (at first : ℕ) where
   total-refusal : {n : ℕ} (x : Judged ℕ) → Totals s at x → judgeWhole way s at first x ≡ refused n → Refusal way s at n
-  total-refusal (more m) t e = let z : _≡_ {A = ℕ} 0 1 = cc in absurd (omega arith)
+  total-refusal (more m) t e = more-not-refused e
   total-refusal {n} (refused m) t e = let w : m ≡ n = cc in subst (Refusal way s at) w (unsized t)
   total-refusal (accepted total) t e = sized t (whole-refusal way (take (at + total) s) at first total (judgement-no _ e))
 

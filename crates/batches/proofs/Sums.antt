@@ -2,7 +2,7 @@
 -- Assumes nothing.
 use Prim.Native.Nat.{ℕ, zero, suc, _+_, _-_, _<_, _≤_, _^_}
 use mathlib.Core.Path.{_≡_, refl, sym, ap, _∙_, subst, subst⁻¹}
-use mathlib.Core.Bool.{Bool, true, false, not}
+use mathlib.Core.Bool.{Bool, true, false, not, false≢true}
 use mathlib.Core.Option.{none, some}
 use native.Mathlib.Omega.{arith}
 use native.Mathlib.Decide.{decLt}
@@ -108,7 +108,7 @@ of-64 (negsuc k) e = record { sfits = ltb-true k (2 ^ 63) e }
 limit-up : (b : ℤ) → SFits w64 b → leZ (pos 0) b ≡ true
     → SFits w64 (pos 9223372036854775807 -ℤ b) × ((a : ℤ) → SFits w64 a → leZ a (pos 9223372036854775807 -ℤ b) ≡ in64 (a +ℤ b))
 limit-up (pos m) g h = rw (up m (g .sfits)) (record { sfits = omega arith }, λ a f. fits-up a m f (g .sfits))
-limit-up (negsuc k) g h = let z : _≡_ {A = ℕ} 0 1 = cc in absurd (omega arith)
+limit-up (negsuc k) g h = absurd (false≢true h)
 
 limit-down : (b : ℤ) → SFits w64 b → leZ (pos 0) b ≡ false
     → SFits w64 (negsuc 9223372036854775807 -ℤ b) × ((a : ℤ) → SFits w64 a → leZ (negsuc 9223372036854775807 -ℤ b) a ≡ in64 (a +ℤ b))

@@ -10,10 +10,11 @@ use Rattle.primitives.specs.Pick.{pick}
 use Rattle.primitives.proofs.Places.{in-front, whole, no-rest}
 use Rattle.records.specs.Format.{Record}
 use Rattle.batches.specs.Batch.{Batch}
-use Rattle.batches.specs.Judgement.{Judged, more, refused, accepted, Accepted, Judgement, judge}
+use Rattle.batches.specs.Judgement.{more, refused, accepted, Accepted, Judgement, judge}
 use Rattle.batches.specs.Placed.{shownBatch}
 use Rattle.batches.specs.Answers.{Answer, Standing, Rooms, roomsOf, answerOf, hasRoom, acceptedAs, lacksRoom}
 use Rattle.batches.specs.Statements.{Unambiguous, Never}
+use Rattle.batches.proofs.Verdicts.{more-not-refused, refused-not-accepted}
 use Rattle.batches.proofs.Complete.{complete}
 use Rattle.batches.proofs.Stands.{judge-stands}
 
@@ -33,12 +34,6 @@ unambiguous strict strict′ bs rest a b g h =
 
 -- ---- no batch after a refusal
 
-accepted-not-refused : {A : Type 0} {a : A} {n : ℕ} → accepted a ≡ refused n → ⊥
-accepted-not-refused e = let z : _≡_ {A = ℕ} 0 1 = cc in omega arith
-
-more-not-refused : {A : Type 0} {m n : ℕ} → _≡_ {A = Judged A} (more m) (refused n) → ⊥
-more-not-refused e = let z : _≡_ {A = ℕ} 0 1 = cc in omega arith
-
 -- 0 and 14 are not among the numbers 2 to 13
 room-not-standing : (room : Bool) (x y : Answer) → x .number ≡ 0 → y .number ≡ 14 → Standing (pick room x y .number) → ⊥
 room-not-standing true x y e f (l, h) = omega arith
@@ -56,4 +51,4 @@ never strict s after bs rest b t o promise standing e g =
     let (n, refusal) = standing-refused (judge s) (roomsOf t) (rw (ap (λ (x : Answer). x .number) (promise .answer)) at standing) in
     let later = judge-stands s after (λ m is. more-not-refused (sym is ∙ refusal)) in
     let one = complete strict (bs ++ rest) 0 0 (length bs) bs b (in-front bs rest) g .0 in
-    accepted-not-refused (sym one ∙ ap judge (sym e) ∙ later ∙ refusal)
+    refused-not-accepted (sym refusal ∙ sym later ∙ ap judge e ∙ one)
