@@ -83,6 +83,7 @@ Refusals = (way : Control) → Within way → (s : List ℕ) (at first n : ℕ) 
 abbrev pub BareMarkerWithin : Type 0
 BareMarkerWithin = Within bareMarkerAt
 
+-- a signed number below n
 abbrev pub Below : ℤ → ℕ → Type 0
 Below (pos m) n = m < n
 Below (negsuc k) n = Unit {0}
@@ -116,6 +117,7 @@ module _ (s : List ℕ) where
   abbrev pub CountIs : ℕ → Type 0
   CountIs n = (numberIn (table .count) s 0 ≡ pos n) ⊎ ((numberIn (table .count) s 0 ≡ negsuc 0) × (n ≡ 0))
 
+  -- the count is below -1
   abbrev pub CountBelow : Type 0
   CountBelow = (k : ℕ) × (numberIn (table .count) s 0 ≡ negsuc (suc k))
 
