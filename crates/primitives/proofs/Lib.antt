@@ -1,3 +1,4 @@
+pub mod AllBytes
 pub mod Codes
 pub mod Fields
 pub mod Integers
@@ -5,8 +6,10 @@ pub mod Lengths
 pub mod Mask
 pub mod Moves
 pub mod Numbers
+pub mod Pens
 pub mod Picks
 pub mod Places
+pub mod Refusing
 pub mod Shifted
 pub mod Shortest
 pub mod Signs

@@ -1,6 +1,8 @@
+pub mod Pen
 pub mod Pick
 pub mod Bytes
 pub mod Single
+pub mod Exactly
 pub mod Step
 pub mod Stands
 pub mod Format

@@ -1,10 +1,12 @@
--- What each public function promises of its result, for every input. Lent bytes are lent to be read: no function here
--- can change them, so the outcome is the result alone.
-use Prim.Native.Nat.{ℕ, _*_, _^_, _≤_, _<_}
+-- What each public function promises of its result and of a lent output, for every input. Lent bytes are lent to be read:
+-- no function can change them, and where no output is lent the outcome is the result alone.
+use Prim.Native.Nat.{ℕ, _+_, _*_, _^_, _≤_, _<_, min}
 use mathlib.Core.Path.{_≡_}
 use mathlib.Core.Bool.{Bool}
 use mathlib.Core.List.{List}
 use lib.IntN.{ℤ}
+use lib.ListN.{length}
+use lib.Seq.{sets}
 use Rattle.primitives.specs.declared.Fault.{Fault}
 use Rattle.primitives.specs.declared.Encoded.{Encoded}
 use Rattle.primitives.specs.declared.Int8Read.{Int8Read}
@@ -67,6 +69,17 @@ ReadLengthPromise nullable s at r = viewLength r ≡ lengthAt nullable s at
 
 abbrev pub ReadSpanPromise : Bool → List ℕ → ℕ → SpanRead → Type 0
 ReadSpanPromise nullable s at r = viewSpan r ≡ spanAt nullable s at
+
+-- the result of put, with the output at exit
+pub record PutOutcome : Type 0 where
+  pub next : ℕ
+  pub output : List ℕ
+
+-- put, of bytes into an output from a place on: each byte in its place where the output has it, all else as it was, and
+-- the place after them, or the output's end
+pub record PutPromise (bytes out : List ℕ) (at : ℕ) (o : PutOutcome) : Type 0 where
+  pub next : o .next ≡ min (at + length bytes) (length out)
+  pub output : o .output ≡ sets out at bytes
 
 -- what the private functions may count on: a number of a width whose half is given, and a code that fits 64 bits
 pub record Halved (half v : ℕ) : Type 0 where

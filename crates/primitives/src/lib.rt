@@ -1,11 +1,11 @@
 // The primitive types of the record batch: integers of fixed size, numbers of varying length, and bytes that follow
 // their length. Types and names follow src/protocol/primitives.rs of rskafka 0.6.0.
 ghost use mathlib.Core.Path.{_≡_};
-ghost use Prim.Native.Nat.{_≤_};
+ghost use Prim.Native.Nat.{_≤_, min};
 ghost use Rattle.primitives.specs.Format.{complement, bigEndian, zigzag, fewest};
 ghost use Rattle.primitives.specs.Reading.{unsignedAt, signedBy, codeAt, unzigzag};
 ghost use Rattle.primitives.specs.Answers.{viewRaw, inTen};
-ghost use Rattle.primitives.specs.Promises.{NumberPromise, ToBeBytesPromise, UnsignedToBeBytesPromise, EncodePromise, ReadInt8Promise, ReadInt16Promise, ReadInt32Promise, ReadInt64Promise, ReadUint32Promise, ReadUint64Promise, ReadVarintPromise, ReadVarlongPromise, ReadLengthPromise, ReadSpanPromise, Halved, Holds};
+ghost use Rattle.primitives.specs.Promises.{NumberPromise, ToBeBytesPromise, UnsignedToBeBytesPromise, EncodePromise, ReadInt8Promise, ReadInt16Promise, ReadInt32Promise, ReadInt64Promise, ReadUint32Promise, ReadUint64Promise, ReadVarintPromise, ReadVarlongPromise, ReadLengthPromise, ReadSpanPromise, PutPromise, Halved, Holds};
 
 // An integer between -2^7 and 2^7 - 1.
 pub struct Int8(pub i8);
@@ -487,4 +487,27 @@ fn fewest_bytes(c: u64) -> Encoded
     }
     bytes[n] = x as u8;
     Encoded { bytes, len: n + 1 }
+}
+
+// Writes bytes from a place of the output on, as far as it goes. Gives the place after them, or the output's end.
+pub fn put(bytes: &[u8], output: &mut [u8], at: usize) -> usize
+    ensures { λ r. ⌜ PutPromise (now (bytes .entry)) (now (output .entry)) at (record { next = r; output = now (output .exit) }) ⌝ }
+{
+    let room = output.len();
+    if room <= at {
+        return room;
+    }
+    let n = lesser(bytes.len(), room - at);
+    let mut i: usize = 0;
+    while i < n {
+        output[at + i] = bytes[i];
+        i += 1;
+    }
+    at + n
+}
+
+fn lesser(a: usize, b: usize) -> usize
+    ensures { λ r. ⌜ r ≡ min a b ⌝ }
+{
+    if a < b { a } else { b }
 }
