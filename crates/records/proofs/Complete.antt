@@ -31,7 +31,7 @@ use Rattle.records.proofs.Shows.{bytes-shows, header-shows, record-show
 
 -- ---- counts and bytes
 
-count-reads : {strict : Bool} {s : List ℕ} {p q : ℕ} {bs : List ℕ} {n : ℕ} → Stands s p q bs → Varies 32 strict bs (pos n) → countAt s p ≡ ok n q
+pub count-reads : {strict : Bool} {s : List ℕ} {p q : ℕ} {bs : List ℕ} {n : ℕ} → Stands s p q bs → Varies 32 strict bs (pos n) → countAt s p ≡ ok n q
 unfolding countAt lengthAt
 count-reads {strict} {s} {p} {q} {bs} {n} x g = rw (varint-complete 32 strict s p q bs (pos n) (omega arith) x g)
 
@@ -109,7 +109,7 @@ module _ {strict : Bool} {s : List ℕ} {p q : ℕ} {bs : List ℕ} {r : Record}
         count-reads (y .count) (g .counted),
       )
 
-  fields-reads : fieldsAt s p ≡ ok (placedFields p g) q
+  pub fields-reads : fieldsAt s p ≡ ok (placedFields p g) q
   unfolding fieldsAt
   fields-reads =
       let y = fields-stand x g in

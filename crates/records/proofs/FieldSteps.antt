@@ -39,8 +39,8 @@ use Rattle.records.specs.declared.PlaceRead.{PlaceRead}
 use Rattle.records.specs.declared.KeyRead.{KeyRead}
 use Rattle.records.specs.Judgement.{countAt, bytesAt, keyAt, headerAt, Deltas, deltasAt, headAt}
 use Rattle.records.specs.Rows.{spanRow, headerRow}
-use Rattle.records.specs.Answers.{recordNumberOf}
-use Rattle.records.specs.Walk.{placeRow, bytesRow, headingOf, viewCount, viewDeltas, viewPlace, viewKey}
+use Rattle.records.specs.Answers.{recordNumberOf, viewCount, placeRow, headingOf}
+use Rattle.records.specs.Walk.{bytesRow, viewDeltas, viewPlace, viewKey}
 
 -- ---- a count
 

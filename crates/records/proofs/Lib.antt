@@ -1,14 +1,19 @@
+pub mod AllBytes
 pub mod Complete
+pub mod Encodes
 mod Ends
 mod FieldSteps
 mod Found
+pub mod Held
+pub mod Inside
 pub mod Nth
-mod Parts
+pub mod Parts
 mod Presence
 pub mod RecordMoves
 pub mod Refusals
 pub mod RunOn
 pub mod Shifted
+pub mod Shortest
 pub mod Shows
 pub mod Single
 pub mod Sizes
@@ -19,4 +24,6 @@ mod Turns
 pub mod Unambiguous
 mod WalkSteps
 mod Whole
+mod Within
+pub mod Writable
 pub mod Written

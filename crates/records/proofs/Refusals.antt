@@ -1,7 +1,7 @@
 -- Records are refused by no number but those from 8 to 13: what is read by steps of which this holds is refused by the
 -- number of one of them, and each test names such a number. Assumes nothing.
 use Prim.Native.Nat.{ℕ, zero, suc, _+_, _≤_}
-use mathlib.Core.Path.{_≡_, subst}
+use mathlib.Core.Path.{_≡_}
 use mathlib.Core.Bool.{Bool, true, false}
 use mathlib.Core.Option.{Option, none, some}
 use mathlib.Core.List.{List}
@@ -12,38 +12,35 @@ use lib.ListN.{length, take}
 use Rattle.primitives.specs.Pick.{pick}
 use Rattle.primitives.specs.Step.{Step, ok, no, andThen, mapStep, times}
 use Rattle.primitives.specs.Reading.{unsignedAt, integerAt, byteAt, codeAt, full, limit, varintAt, lengthOf, lengthAt, spanOf, spanAt}
+use Rattle.primitives.proofs.Refusing.{RefusedBy, refused-by, and-then-refused, map-refused, pick-refused, times-refused}
 use Rattle.utf8.specs.Judgement.{isUtf8}
 use Rattle.records.specs.Judgement.{present, countAt, bytesAt, bytesOf, keyAt, headerAt, deltasAt, headAt, fieldsAt, recordAt, runAt, recordsAt}
 
+abbrev numbers : ℕ → Type 0
+numbers n = (8 ≤ n) × (n ≤ 13)
+
 -- a refusal is by such a number
 abbrev pub Refuses : {P A : Type 0} → Step P A → Type 0
-Refuses (ok a p) = Unit {0}
-Refuses (no n) = (8 ≤ n) × (n ≤ 13)
+Refuses x = RefusedBy numbers x
 
 pub refusal-within : {P A : Type 0} {x : Step P A} {n : ℕ} → Refuses x → x ≡ no n → (8 ≤ n) × (n ≤ 13)
-refusal-within w e = subst Refuses e w
+refusal-within w e = refused-by numbers w e
 
 -- ---- steps of steps
 
 module _ {P A B : Type 0} where
   pub and-then-refuses : (x : Step P A) (f : A → P → Step P B) → Refuses x → ((a : A) (p : P) → Refuses (f a p)) → Refuses (andThen x f)
-  and-then-refuses (ok a p) f w each = each a p
-  and-then-refuses (no n) f w each = w
+  and-then-refuses = and-then-refused numbers
 
   map-refuses : (f : A → B) (x : Step P A) → Refuses x → Refuses (mapStep f x)
-  map-refuses f (ok a p) w = tt
-  map-refuses f (no n) w = w
+  map-refuses = map-refused numbers
 
 module _ {P A : Type 0} where
   pub pick-refuses : (t : Bool) (x y : Step P A) → Refuses x → Refuses y → Refuses (pick t x y)
-  pick-refuses true x y v w = v
-  pick-refuses false x y v w = w
+  pick-refuses = pick-refused numbers
 
   times-refuses : (f : P → Step P A) → ((p : P) → Refuses (f p)) → (k : ℕ) (p : P) → Refuses (times f k p)
-  unfolding times
-  times-refuses f each zero p = tt
-  times-refuses f each (suc k) p =
-      and-then-refuses (f p) _ (each p) (λ a m. map-refuses _ (times f k m) (times-refuses f each k m))
+  times-refuses = times-refused numbers
 
 -- ---- fields
 

@@ -39,7 +39,7 @@ nullable-least : (strict : Bool) (bs : List ℕ) (v : Option (List ℕ)) → Nul
 nullable-least strict bs none g = varies-least (g .1)
 nullable-least strict bs (some v) g = sized-least g
 
-run-least : {A : Type 0} {G : List ℕ → A → Type 0} (n : ℕ) → ((x : List ℕ) (a : A) → G x a → n ≤ length x)
+pub run-least : {A : Type 0} {G : List ℕ → A → Type 0} (n : ℕ) → ((x : List ℕ) (a : A) → G x a → n ≤ length x)
     → {bs : List ℕ} {run : List A} → Run G bs run → n * length run ≤ length bs
 run-least n each Run.ended = omega arith
 run-least n each (Run.more {x} {y} {a} g rest) = rw (length-append x y) (omega (arith, each x a g, run-least n each rest))

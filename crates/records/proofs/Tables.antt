@@ -89,7 +89,7 @@ putRows w t row [] = t
 putRows w t row (numbers ∷ rest) = putRows w (put w t row numbers) (row + 1) rest
 
 -- each is of w numbers
-abbrev Wide : ℕ → List (List ℤ) → Type 0
+abbrev pub Wide : ℕ → List (List ℤ) → Type 0
 Wide w [] = Unit {0}
 Wide w (numbers ∷ rest) = (length numbers ≡ w) × Wide w rest
 
@@ -133,7 +133,7 @@ length-span-row (some x) = refl
 length-record-row : (first : ℕ) (r : RecordSpans) → length (recordRow first r) ≡ 8
 length-record-row first r = simp (length-append, length-span-row)
 
-records-wide : (first : ℕ) (rs : List RecordSpans) → Wide 8 (recordRows first rs)
+pub records-wide : (first : ℕ) (rs : List RecordSpans) → Wide 8 (recordRows first rs)
 unfolding recordRows
 records-wide first [] = tt
 records-wide first (r ∷ rest) = (length-record-row first r, records-wide (first + length (r .headers)) rest)
@@ -163,7 +163,7 @@ run-wide : (hs : List HeaderSpans) → Wide 4 (map headerRow hs)
 run-wide [] = tt
 run-wide (h ∷ rest) = (refl, run-wide rest)
 
-headers-wide : (rs : List RecordSpans) → Wide 4 (headerRows rs)
+pub headers-wide : (rs : List RecordSpans) → Wide 4 (headerRows rs)
 unfolding headerRows
 headers-wide [] = tt
 headers-wide (r ∷ rest) =
@@ -176,13 +176,22 @@ length-header-rows (r ∷ rest) = rw (length-append, length-map, length-header-r
 
 -- ---- both tables
 
-pub records-filled : (first : ℕ) (rs : List RecordSpans) (t : Tables) → roomy first rs t ≡ true
-    → putRecords t 0 first rs ≡ withRows first rs t
-unfolding roomy withRows
-records-filled first rs t e =
-    let (a, b) = both-hold (leb (length rs) (length (t .records) / 8)) (leb (first + headersIn rs) (length (t .headers) / 4)) e in
-    let c = leb-true (length rs) (length (t .records) / 8) a in
-    let d = leb-true (first + headersIn rs) (length (t .headers) / 4) b in
-    let p = rows-filled 8 (t .records) 0 (recordRows first rs) (records-wide first rs) (rw length-record-rows (omega arith)) in
-    let q = rows-filled 4 (t .headers) first (headerRows rs) (headers-wide rs) (rw length-header-rows (omega arith)) in
-    λ i. record { records = (records-put t 0 first rs ∙ p) i; headers = (all-headers-put t 0 first rs ∙ q) i }
+module _ (first : ℕ) (rs : List RecordSpans) (t : Tables) (e : roomy first rs t ≡ true) where
+  pub enough : (length rs ≤ length (t .records) / 8) × (first + headersIn rs ≤ length (t .headers) / 4)
+  unfolding roomy
+  enough =
+      let (a, b) = both-hold (leb (length rs) (length (t .records) / 8)) (leb (first + headersIn rs) (length (t .headers) / 4)) e in
+      (leb-true (length rs) (length (t .records) / 8) a, leb-true (first + headersIn rs) (length (t .headers) / 4) b)
+
+  pub records-end : (0 + length (recordRows first rs)) * 8 ≤ length (t .records)
+  records-end = let (rows, _) = enough in rw length-record-rows (omega arith)
+
+  pub headers-end : (first + length (headerRows rs)) * 4 ≤ length (t .headers)
+  headers-end = let (_, rows) = enough in rw length-header-rows (omega arith)
+
+  pub records-filled : putRecords t 0 first rs ≡ withRows first rs t
+  unfolding withRows
+  records-filled =
+      let p = rows-filled 8 (t .records) 0 (recordRows first rs) (records-wide first rs) records-end in
+      let q = rows-filled 4 (t .headers) first (headerRows rs) (headers-wide rs) headers-end in
+      λ i. record { records = (records-put t 0 first rs ∙ p) i; headers = (all-headers-put t 0 first rs ∙ q) i }

@@ -24,8 +24,8 @@ use Rattle.records.specs.declared.Filled.{Filled}
 use Rattle.records.specs.declared.Passed.{Passed}
 use Rattle.records.specs.Judgement.{HeaderSpans, RecordSpans, Head, countAt, headerAt, headAt, withHeaders, fieldsAt, recordAt}
 use Rattle.records.specs.Rows.{headerRow, recordRow, Tables, tables}
-use Rattle.records.specs.Answers.{recordNumberOf}
-use Rattle.records.specs.Walk.{placeRow, Heading, headingOf, viewCount, viewHeader, viewRecord, put, putHeaders, Walked, walkedRecord, viewFilled, viewWalk}
+use Rattle.records.specs.Answers.{recordNumberOf, viewCount, placeRow, viewHeader, Heading, headingOf, viewRecord}
+use Rattle.records.specs.Walk.{put, putHeaders, Walked, walkedRecord, viewFilled, viewWalk}
 use Rattle.records.proofs.RecordMoves.{count-moves, record-moves}
 use Rattle.records.proofs.Turns.{headers-again, headers-done, walkOn, again, stop, done}
 

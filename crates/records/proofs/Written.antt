@@ -28,7 +28,7 @@ nullable-written : (bs : List ℕ) (v : Option (List ℕ)) → Nullable true tru
 nullable-written bs none g = g .1 .tight
 nullable-written bs (some v) g = sized-written bs v g
 
-attributes-written : (bs : List ℕ) (a : ℤ) → Integer 1 bs a → a ≡ pos 0 → bs ≡ 0 ∷ []
+pub attributes-written : (bs : List ℕ) (a : ℤ) → Integer 1 bs a → a ≡ pos 0 → bs ≡ 0 ∷ []
 unfolding bigEndian
 attributes-written bs a g e = g .is ∙ ap (λ (z : ℤ). bigEndian 1 (complement 8 z)) e
 
@@ -40,7 +40,7 @@ headers-written : (bs : List ℕ) (hs : List Header) → Run (HeaderBytes true) 
 unfolding writtenHeaders
 headers-written bs hs g = all-written writtenHeader header-written writtenHeaders refl (λ h rest. refl) g
 
-fields-written : (bs : List ℕ) (r : Record) → Fields true bs r → bs ≡ writtenFields r
+pub fields-written : (bs : List ℕ) (r : Record) → Fields true bs r → bs ≡ writtenFields r
 unfolding writtenFields
 fields-written bs r g =
     g .is

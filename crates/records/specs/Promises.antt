@@ -6,15 +6,30 @@ use mathlib.Core.List.{List}
 use Rattle.primitives.specs.Pick.{pick}
 use Rattle.primitives.specs.Step.{Step, ok, no, mapStep}
 use Rattle.records.specs.declared.RecordFault.{RecordFault}
+use Rattle.records.specs.declared.CountRead.{CountRead}
+use Rattle.records.specs.declared.RecordHeaderRead.{RecordHeaderRead}
+use Rattle.records.specs.declared.RecordRead.{RecordRead}
 use Rattle.records.specs.declared.RecordsCheck.{RecordsCheck}
 use Rattle.records.specs.declared.RecordsRead.{RecordsRead}
-use Rattle.records.specs.Judgement.{RecordSpans, recordsAt}
-use Rattle.records.specs.Rows.{Tables, roomy, withRows}
-use Rattle.records.specs.Answers.{Answer, accepted, noRoom, refused, recordNumberOf, countsOf, viewCheck, viewRead}
+use Rattle.records.specs.Judgement.{RecordSpans, countAt, headerAt, headAt, recordsAt}
+use Rattle.records.specs.Rows.{headerRow, Tables, roomy, withRows}
+use Rattle.records.specs.Answers.{Answer, accepted, noRoom, refused, recordNumberOf, viewCount, viewHeader, headingOf, viewRecord, countsOf, viewCheck, viewRead}
 
 -- RecordFault::number
 abbrev pub RecordNumberPromise : RecordFault → ℕ → Type 0
 RecordNumberPromise f r = r ≡ recordNumberOf f
+
+-- read_count, on bytes s and a cursor at a place
+abbrev pub ReadCountPromise : List ℕ → ℕ → CountRead → Type 0
+ReadCountPromise s at r = viewCount r ≡ countAt s at
+
+-- RecordHeader::read
+abbrev pub ReadHeaderPromise : List ℕ → ℕ → RecordHeaderRead → Type 0
+ReadHeaderPromise s at r = viewHeader r ≡ mapStep headerRow (headerAt s at)
+
+-- Record::read
+abbrev pub ReadRecordPromise : List ℕ → ℕ → RecordRead → Type 0
+ReadRecordPromise s at r = viewRecord r ≡ mapStep headingOf (headAt s at)
 
 -- check_records, on bytes s, a place and a number of records
 abbrev pub CheckRecordsPromise : List ℕ → ℕ → ℕ → RecordsCheck → Type 0

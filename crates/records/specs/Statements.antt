@@ -1,16 +1,19 @@
 -- The laws of records, each in words and then as a statement. What proves each stands in proofs/ under the statement's
 -- name in small letters: `header-sound : HeaderSound`.
-use Prim.Native.Nat.{ℕ, _+_, _*_, _<_, _≤_}
+use Prim.Native.Nat.{ℕ, _+_, _*_, _^_, _<_, _≤_}
 use mathlib.Core.Path.{_≡_}
 use mathlib.Core.Bool.{Bool, true, false}
 use mathlib.Core.List.{List, [], _∷_, _++_, map}
+use lib.IntN.{pos}
 use lib.ListN.{length, take}
 use Rattle.primitives.specs.Bytes.{Bytes}
+use Rattle.primitives.specs.Format.{InBits}
 use Rattle.primitives.specs.Step.{ok, no, times}
 use Rattle.primitives.specs.Stands.{Stands, Encoding}
 use Rattle.primitives.specs.Shifted.{movedSpan, movedNullable, movedStep}
 use Rattle.records.specs.Format.{Header, Record, Run, HeaderBytes, RecordBytes, RecordsBytes}
-use Rattle.records.specs.Written.{writtenRecord, writtenRecords}
+use Rattle.utf8.specs.Grammar.{Octets}
+use Rattle.records.specs.Written.{writtenFields, writtenRecord, writtenRecords}
 use Rattle.records.specs.Judgement.{HeaderSpans, RecordSpans, headerAt, recordAt, runAt, recordsAt}
 use Rattle.records.specs.Rows.{recordRow, recordRows, headersIn}
 use Rattle.records.specs.Placed.{placedHeader, placedRecord, placedRecords, shownHeader, shownRecord, shownRecords}
@@ -96,6 +99,47 @@ RecordWritten = (bs : List ℕ) (r : Record) → RecordBytes true bs r → bs �
 
 abbrev pub RunWritten : Type 0
 RunWritten = (bs : List ℕ) (rs : List Record) → RecordsBytes true bs rs → bs ≡ writtenRecords rs
+
+-- ---- writing
+
+-- each of a list
+unfoldable pub Each : {A : Type 0} → (A → Type 0) → List A → Type 0
+Each P [] = Unit {0}
+Each P (a ∷ rest) = P a × Each P rest
+
+-- what can be written: deltas of 64 and of 32 bits, keys of headers in UTF-8, and fields whose length a Varint holds
+pub record Writable (r : Record) : Type 0 where
+  pub timestamp : InBits 64 (r .timestampDelta)
+  pub offset : InBits 32 (r .offsetDelta)
+  pub keys : Each (λ (h : Header). Octets (h .key)) (r .headers)
+  pub size : length (writtenFields r) < 2 ^ 31
+
+-- What can be written is written as the strict grammar has it.
+abbrev pub RecordEncodes : Type 0
+RecordEncodes = (strict : Bool) (r : Record) → Writable r → RecordBytes strict (writtenRecord r) r
+
+abbrev pub RunEncodes : Type 0
+RunEncodes = (strict : Bool) (rs : List Record) → Each Writable rs → RecordsBytes strict (writtenRecords rs) rs
+
+-- Whatever has an encoding can be written.
+abbrev pub RecordWritable : Type 0
+RecordWritable = (strict : Bool) (bs : List ℕ) (r : Record) → RecordBytes strict bs r → Writable r
+
+abbrev pub RunWritable : Type 0
+RunWritable = (strict : Bool) (bs : List ℕ) (rs : List Record) → RecordsBytes strict bs rs → Each Writable rs
+
+-- Of all encodings what is written is the shortest.
+abbrev pub RecordShortest : Type 0
+RecordShortest = (strict : Bool) (bs : List ℕ) (r : Record) → RecordBytes strict bs r → length (writtenRecord r) ≤ length bs
+
+abbrev pub RunShortest : Type 0
+RunShortest = (strict : Bool) (bs : List ℕ) (rs : List Record) → RecordsBytes strict bs rs → length (writtenRecords rs) ≤ length bs
+
+-- An encoding that is as short, with attributes of 0, is of the strict grammar.
+abbrev pub RecordTight : Type 0
+RecordTight =
+    (bs : List ℕ) (r : Record) → (g : RecordBytes false bs r) → g .holds .attribute ≡ pos 0 → length bs ≡ length (writtenRecord r)
+    → RecordBytes true bs r
 
 -- ---- sizes and counts
 

@@ -10,28 +10,16 @@ use Rattle.primitives.specs.Pick.{pick}
 use Rattle.primitives.specs.Step.{Step, ok, no}
 use Rattle.primitives.specs.Reading.{Span}
 use Rattle.primitives.specs.Answers.{numberOf}
-use Rattle.records.specs.declared.Place.{Place}
-use Rattle.records.specs.declared.CountRead.{CountRead}
 use Rattle.records.specs.declared.PlaceRead.{PlaceRead}
 use Rattle.records.specs.declared.KeyRead.{KeyRead}
-use Rattle.records.specs.declared.RecordHeaderRead.{RecordHeaderRead}
 use Rattle.records.specs.declared.DeltasRead.{DeltasRead}
-use Rattle.records.specs.declared.RecordRead.{RecordRead}
 use Rattle.records.specs.declared.Filled.{Filled}
 use Rattle.records.specs.declared.Passed.{Passed}
-use Rattle.records.specs.Judgement.{HeaderSpans, RecordSpans, Deltas, Head}
+use Rattle.records.specs.Judgement.{HeaderSpans, RecordSpans, Deltas}
 use Rattle.records.specs.Rows.{spanRow, headerRow, recordRow, headersIn, Tables, tables}
-use Rattle.records.specs.Answers.{recordNumberOf}
+use Rattle.records.specs.Answers.{recordNumberOf, placeRow}
 
 -- ---- the steps of the walk
-
-abbrev pub viewCount : CountRead → Step ℕ ℕ
-viewCount (CountRead.Got n c) = ok n (c .at)
-viewCount (CountRead.Refused f) = no (numberOf f)
-
--- two numbers of a row
-abbrev pub placeRow : Place → List ℤ
-placeRow x = x .start ∷ x .len ∷ []
 
 abbrev pub bytesRow : Span → List ℤ
 bytesRow x = spanRow (some x)
@@ -44,34 +32,9 @@ abbrev pub viewPlace : PlaceRead → Step ℕ (List ℤ)
 viewPlace (PlaceRead.Got x c) = ok (placeRow x) (c .at)
 viewPlace (PlaceRead.Refused f) = no (numberOf f)
 
--- the four numbers of a header's row
-abbrev pub viewHeader : RecordHeaderRead → Step ℕ (List ℤ)
-viewHeader (RecordHeaderRead.Got h c) = ok (placeRow (h .key) ++ placeRow (h .value)) (c .at)
-viewHeader (RecordHeaderRead.Refused f) = no (recordNumberOf f)
-
 abbrev pub viewDeltas : DeltasRead → Step ℕ Deltas
 viewDeltas (DeltasRead.Got d c) = ok (record { timestamp = d .timestamp; offset = d .offset }) (c .at)
 viewDeltas (DeltasRead.Refused f) = no (numberOf f)
-
--- the first six numbers of a record's row, and how many headers it has
-pub record Heading : Type 0 where
-  pub numbers : List ℤ
-  pub count : ℕ
-
-abbrev pub headingOf : Head → Heading
-headingOf h =
-    record {
-      numbers = h .deltas .timestamp ∷ h .deltas .offset ∷ (spanRow (h .key) ++ spanRow (h .value));
-      count = h .count;
-    }
-
-abbrev pub viewRecord : RecordRead → Step ℕ Heading
-viewRecord (RecordRead.Got r c) =
-    ok (record {
-      numbers = r .deltas .timestamp ∷ r .deltas .offset ∷ (placeRow (r .key) ++ placeRow (r .value));
-      count = r .headers;
-    }) (c .at)
-viewRecord (RecordRead.Refused f) = no (numberOf f)
 
 -- ---- tables
 

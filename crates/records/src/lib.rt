@@ -18,10 +18,11 @@ ghost use lib.IntN.{pos};
 ghost use Rattle.primitives.specs.Pick.{pick};
 ghost use Rattle.primitives.specs.Step.{mapStep, times};
 ghost use Rattle.primitives.specs.Reading.{spanAt};
-ghost use Rattle.records.specs.Judgement.{countAt, keyAt, headerAt, deltasAt, headAt, fieldsAt, recordAt, runAt};
-ghost use Rattle.records.specs.Rows.{spanRow, headerRow, tables};
-ghost use Rattle.records.specs.Walk.{viewCount, viewKey, bytesRow, viewPlace, viewHeader, viewDeltas, viewRecord, placeRow, headingOf, put, putHeaders, walkedRecord, walkedRecords, viewFilled, viewWalk};
-ghost use Rattle.records.specs.Promises.{RecordNumberPromise, CheckRecordsPromise, ReadRecordsPromise};
+ghost use Rattle.records.specs.Judgement.{keyAt, headerAt, deltasAt, fieldsAt, recordAt, runAt};
+ghost use Rattle.records.specs.Rows.{spanRow, tables};
+ghost use Rattle.records.specs.Answers.{placeRow};
+ghost use Rattle.records.specs.Walk.{viewKey, bytesRow, viewPlace, viewDeltas, put, putHeaders, walkedRecord, walkedRecords, viewFilled, viewWalk};
+ghost use Rattle.records.specs.Promises.{RecordNumberPromise, ReadCountPromise, ReadHeaderPromise, ReadRecordPromise, CheckRecordsPromise, ReadRecordsPromise};
 
 // Why records are refused.
 pub enum RecordFault {
@@ -55,30 +56,30 @@ pub enum RecordsRead {
 }
 
 // Where bytes stand, as a row has it: start and length, 0 and -1 for null.
-struct Place {
-    start: i64,
-    len: i64,
+pub struct Place {
+    pub start: i64,
+    pub len: i64,
 }
 
-struct RecordHeader {
-    key: Place,
-    value: Place,
+pub struct RecordHeader {
+    pub key: Place,
+    pub value: Place,
 }
 
-struct RecordDeltas {
-    timestamp: i64,
-    offset: i64,
+pub struct RecordDeltas {
+    pub timestamp: i64,
+    pub offset: i64,
 }
 
 // What a record has before its headers, and how many these are.
-struct Record {
-    deltas: RecordDeltas,
-    key: Place,
-    value: Place,
-    headers: u32,
+pub struct Record {
+    pub deltas: RecordDeltas,
+    pub key: Place,
+    pub value: Place,
+    pub headers: u32,
 }
 
-enum CountRead {
+pub enum CountRead {
     Got(u32, Cursor),
     Refused(Fault),
 }
@@ -93,7 +94,7 @@ enum KeyRead {
     Refused(RecordFault),
 }
 
-enum RecordHeaderRead {
+pub enum RecordHeaderRead {
     Got(RecordHeader, Cursor),
     Refused(RecordFault),
 }
@@ -103,7 +104,7 @@ enum DeltasRead {
     Refused(Fault),
 }
 
-enum RecordRead {
+pub enum RecordRead {
     Got(Record, Cursor),
     Refused(Fault),
 }
@@ -348,8 +349,8 @@ impl Record {
     const ROW: usize = 8;
 
     // Attributes, which say nothing; both deltas; key, value and the number of headers.
-    fn read(c: Cursor, s: &[u8]) -> RecordRead
-        ensures { λ r. ⌜ viewRecord r ≡ mapStep headingOf (headAt (now (s .entry)) (c .at)) ⌝ }
+    pub fn read(c: Cursor, s: &[u8]) -> RecordRead
+        ensures { λ r. ⌜ ReadRecordPromise (now (s .entry)) (c .at) r ⌝ }
     {
         match read_deltas(c, s) {
             DeltasRead::Got(deltas, at_key) => match read_place(at_key, s, true) {
@@ -380,8 +381,8 @@ impl RecordHeader {
     const ROW: usize = 4;
 
     // The key is judged before the value is looked at.
-    fn read(c: Cursor, s: &[u8]) -> RecordHeaderRead
-        ensures { λ r. ⌜ viewHeader r ≡ mapStep headerRow (headerAt (now (s .entry)) (c .at)) ⌝ }
+    pub fn read(c: Cursor, s: &[u8]) -> RecordHeaderRead
+        ensures { λ r. ⌜ ReadHeaderPromise (now (s .entry)) (c .at) r ⌝ }
     {
         match read_key(c, s) {
             KeyRead::Got(key, at_value) => match read_place(at_value, s, false) {
@@ -441,8 +442,8 @@ fn read_key(c: Cursor, s: &[u8]) -> KeyRead
 }
 
 // A record's length, or a number of headers. Null is not allowed there, and would be as wrong as any negative length.
-fn read_count(c: Cursor, s: &[u8]) -> CountRead
-    ensures { λ r. ⌜ viewCount r ≡ countAt (now (s .entry)) (c .at) ⌝ }
+pub fn read_count(c: Cursor, s: &[u8]) -> CountRead
+    ensures { λ r. ⌜ ReadCountPromise (now (s .entry)) (c .at) r ⌝ }
 {
     match c.read_length(s, false) {
         LengthRead::Length(n, next) => CountRead::Got(n, next),

@@ -1,0 +1,85 @@
+-- What a table holds once rows were put in: row for row and number for number, what was put in. Each row stands just
+-- after those before it, all as wide. Assumes nothing.
+use Prim.Native.Nat.{ℕ, _+_, _*_, _/_, _≤_, _<_}
+use mathlib.Core.Path.{_≡_, sym, _∙_}
+use mathlib.Core.Bool.{true}
+use mathlib.Core.List.{List, [], _∷_, _++_, append-assoc}
+use native.Mathlib.Omega.{arith}
+use native.Mathlib.Nat.{add-mul, one-mul, zero-mul, suc-mul}
+use lib.IntN.{ℤ, pos}
+use lib.ListN.{length, take, drop, getD, length-append, length-drop, List·getD-append}
+use lib.Seq.{length-take-le, getD-append-add}
+use Rattle.records.specs.Judgement.{RecordSpans}
+use Rattle.records.specs.Rows.{headersIn, recordRows, headerRows, joined, filled, Tables, roomy, withRows}
+use Rattle.records.proofs.Tables.{Wide, records-wide, headers-wide, enough, records-end, headers-end}
+
+-- a row of w numbers holds these
+abbrev pub RowHeld : ℕ → List ℤ → ℕ → List ℤ → Type 0
+RowHeld w t row numbers = (k : ℕ) → k < w → getD t (row * w + k) (pos 0) ≡ getD numbers k (pos 0)
+
+-- rows hold these, from a given row on
+unfoldable pub RowsHeld : ℕ → List ℤ → ℕ → List (List ℤ) → Type 0
+RowsHeld w t row [] = Unit {0}
+RowsHeld w t row (numbers ∷ rest) = RowHeld w t row numbers × RowsHeld w t (row + 1) rest
+
+-- ---- rows between what stands before and after them
+
+module _ (w : ℕ) (back : List ℤ) where
+  row-held : (front : List ℤ) (row : ℕ) (numbers after : List ℤ) → length front ≡ row * w → length numbers ≡ w
+      → RowHeld w (front ++ (numbers ++ after)) row numbers
+  row-held front row numbers after e l k h =
+      rw (← e) (getD-append-add front (numbers ++ after) k (pos 0) ∙ List·getD-append numbers after (pos 0) k (omega arith))
+
+  rows-held : (front : List ℤ) (row : ℕ) (rows : List (List ℤ)) → length front ≡ row * w → Wide w rows
+      → RowsHeld w (front ++ (joined rows ++ back)) row rows
+  unfolding joined RowsHeld
+  rows-held front row [] e wide = tt
+  rows-held front row (numbers ∷ rest) e (l, wide) =
+      let next : length (front ++ numbers) ≡ (row + 1) * w = rw (length-append, add-mul, one-mul, e, l) in
+      let same : (front ++ numbers) ++ (joined rest ++ back) ≡ front ++ ((numbers ++ joined rest) ++ back) = simp append-assoc in (
+        rw append-assoc (row-held front row numbers (joined rest ++ back) e l),
+        rw same at (rows-held (front ++ numbers) (row + 1) rest next wide),
+      )
+
+joined-length : (w : ℕ) (rows : List (List ℤ)) → Wide w rows → length (joined rows) ≡ length rows * w
+unfolding joined
+joined-length w [] wide = sym (zero-mul w)
+joined-length w (numbers ∷ rest) (l, wide) = rw (length-append, l, joined-length w rest wide) (omega (arith, suc-mul (length rest) w))
+
+-- ---- rows that were put in
+
+module _ (w : ℕ) (t : List ℤ) (row : ℕ) (rows : List (List ℤ)) (wide : Wide w rows) (h : (row + length rows) * w ≤ length t) where
+  filled-held : RowsHeld w (filled w row rows t) row rows
+  unfolding filled
+  filled-held =
+      let before : row * w ≤ length t = omega (arith, add-mul row (length rows) w) in
+      rows-held w (drop ((row + length rows) * w) t) (take (row * w) t) row rows (length-take-le (row * w) t before) wide
+
+  filled-length : length (filled w row rows t) ≡ length t
+  unfolding filled
+  filled-length =
+      let before : row * w ≤ length t = omega (arith, add-mul row (length rows) w) in
+      rw (length-append, length-append, length-take-le (row * w) t before, joined-length w rows wide, length-drop)
+      (omega (arith, add-mul row (length rows) w))
+
+-- ---- the rows of records
+
+module _ (first : ℕ) (rs : List RecordSpans) (t : Tables) (room : roomy first rs t ≡ true) where
+  pub record-rows-held : RowsHeld 8 (withRows first rs t .records) 0 (recordRows first rs)
+  unfolding withRows
+  record-rows-held = filled-held 8 (t .records) 0 (recordRows first rs) (records-wide first rs) (records-end first rs t room)
+
+  pub header-rows-held : RowsHeld 4 (withRows first rs t .headers) first (headerRows rs)
+  unfolding withRows
+  header-rows-held = filled-held 4 (t .headers) first (headerRows rs) (headers-wide rs) (headers-end first rs t room)
+
+  -- the tables have as many rows as before, so enough
+  pub record-rows-there : length rs ≤ length (withRows first rs t .records) / 8
+  unfolding withRows
+  record-rows-there =
+      rw (filled-length 8 (t .records) 0 (recordRows first rs) (records-wide first rs) (records-end first rs t room)) (enough first rs t room .0)
+
+  pub header-rows-there : first + headersIn rs ≤ length (withRows first rs t .headers) / 4
+  unfolding withRows
+  header-rows-there =
+      rw (filled-length 4 (t .headers) first (headerRows rs) (headers-wide rs) (headers-end first rs t room)) (enough first rs t room .1)
