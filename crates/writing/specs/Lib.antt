@@ -1,0 +1,6 @@
+pub mod Asked
+pub mod Answers
+pub mod Promises
+pub mod Statements
+pub mod Sizes
+pub mod Put
