@@ -40,15 +40,15 @@ control-again : {R : Type 0} (c : Content R) → eqb (controlBit c) 1 ≡ contro
 control-again (control m) = refl
 control-again (records rs) = refl
 
-timestamp-small : (t : TimestampType) → timestampBit t ≤ 1
+pub timestamp-small : (t : TimestampType) → timestampBit t ≤ 1
 timestamp-small createTime = omega arith
 timestamp-small logAppendTime = omega arith
 
-bit-small : (x : Bool) → bit x ≤ 1
+pub bit-small : (x : Bool) → bit x ≤ 1
 bit-small false = omega arith
 bit-small true = omega arith
 
-control-small : {R : Type 0} (c : Content R) → controlBit c ≤ 1
+pub control-small : {R : Type 0} (c : Content R) → controlBit c ≤ 1
 control-small (control m) = omega arith
 control-small (records rs) = omega arith
 

@@ -2,6 +2,7 @@
 -- form in which a proof finds them. Assumes nothing.
 use Prim.Native.Nat.{ℕ, _≤_, _<_}
 use mathlib.Core.Path.{_≡_, sym, ap, _∙_}
+use mathlib.Core.Bool.{true, false}
 use mathlib.Core.List.{List}
 use native.Mathlib.Omega.{arith}
 use borrow.Author.Tests.{lt-ltb, le-ltb}
@@ -16,8 +17,12 @@ use Rattle.primitives.specs.declared.Int16Read.{Int16Read}
 use Rattle.primitives.specs.Step.{Step, ok, no, andThen}
 use Rattle.primitives.specs.Reading.{integerAt}
 use Rattle.primitives.specs.Answers.{numberOf, viewInt16}
+use Rattle.batches.specs.declared.BatchFault.{BatchFault}
+use Rattle.batches.specs.declared.ControlBatchRecord.{ControlBatchRecord}
+use Rattle.batches.specs.declared.ControlBatchRecordRead.{ControlBatchRecordRead}
 use Rattle.batches.specs.Batch.{Marker, abort, commit}
 use Rattle.batches.specs.Judgement.{markerOf, endedAt, bareMarkerAt}
+use Rattle.batches.specs.Opening.{viewMarkerRead, isOk}
 use Rattle.batches.proofs.SignedTests.{bits-number, bits-other}
 
 -- ---- what follows
@@ -63,3 +68,12 @@ module _ (s : List ℕ) (at : ℕ) (a : Int16Read) (e : viewInt16 a ≡ integerA
 
         pub unknown-type : (ofZ w16 (y .0) ≡ 0 → ⊥) → (ofZ w16 (y .0) ≡ 1 → ⊥) → no 12 ≡ bareMarkerAt s at
         unknown-type i j = rw (bits-other w16 0 (y .0) i, bits-other w16 1 (y .0) j) at of-type
+
+-- ---- whether a marker stands there
+
+module _ (s : List ℕ) (at : ℕ) (r : ControlBatchRecordRead) (e : viewMarkerRead r ≡ bareMarkerAt s at) where
+  pub marker-there : (m : ControlBatchRecord) (c : Cursor) → r ≡ ControlBatchRecordRead.Got m c → true ≡ isOk (bareMarkerAt s at)
+  marker-there m c f = ap isOk (sym (ap viewMarkerRead f) ∙ e)
+
+  pub marker-missing : (f : BatchFault) → r ≡ ControlBatchRecordRead.Refused f → false ≡ isOk (bareMarkerAt s at)
+  marker-missing f g = ap isOk (sym (ap viewMarkerRead g) ∙ e)

@@ -7,6 +7,7 @@ use mathlib.Core.Logic.{_⊎_, inl, inr}
 use mathlib.Core.List.{List}
 use native.Mathlib.Omega.{arith}
 use lib.ListN.{length, take}
+use Rattle.primitives.specs.Exactly.{Exactly}
 use Rattle.primitives.specs.Step.{Step, ok, no}
 use Rattle.records.specs.Judgement.{RecordSpans}
 use Rattle.records.specs.Rows.{Tables}
@@ -15,7 +16,7 @@ use Rattle.batches.specs.Batch.{Content, control, records}
 use Rattle.batches.specs.Judgement.{Judgement, Judged, more, refused, accepted, Accepted, Control, judgementOf, wholeAt, judgeWhole, judgeWith, totalAt, bareMarkerAt, judge}
 use Rattle.batches.specs.Answers.{Standing, Answer, viewRead, wants, lacksRoom, recordsIn, headersOf, roomsOf, hasRoom, answerOf}
 use Rattle.batches.specs.Promises.{ReadOutcome, ReadBy}
-use Rattle.batches.specs.Statements.{Exactly, movedJudgement}
+use Rattle.batches.specs.Statements.{movedJudgement}
 use Rattle.batches.specs.Demand3.{Lacks, length-lacks, magic-lacks, batch-lacks, MoreBytes, MoreBytesWith, NoRoom, NoRoomWith}
 use Rattle.batches.proofs.Numbers.{refusals, bare-marker-within}
 use Rattle.batches.proofs.Shifted.{first-header-shifted}

@@ -28,7 +28,7 @@ module _ (rs : List RecordSpans) (first : ℕ) (r : Rooms) where
       let (x, y) = both-hold (leb (length rs) (r .records)) (leb (first + headersIn rs) (r .headers)) e in
       (leb-true (length rs) (r .records) x, leb-true (first + headersIn rs) (r .headers) y)
 
-  is-room : length rs ≤ r .records → first + headersIn rs ≤ r .headers → hasRoom (records rs) first r ≡ true
+  pub is-room : length rs ≤ r .records → first + headersIn rs ≤ r .headers → hasRoom (records rs) first r ≡ true
   is-room h k = rw (le-leb (length rs) (r .records) h, le-leb (first + headersIn rs) (r .headers) k)
 
   pub room-short : hasRoom (records rs) first r ≡ false → (r .records < length rs) ⊎ (r .headers < first + headersIn rs)

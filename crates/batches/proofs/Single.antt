@@ -1,5 +1,5 @@
--- Each promise admits a single answer: from what the answer says it can be made again, and the tables are given.
--- Assumes nothing.
+-- Each promise admits a single answer: from what the answer says it can be made again, and the tables and the output are
+-- given. Assumes nothing.
 use Prim.Native.Nat.{ℕ}
 use mathlib.Core.Path.{_≡_, refl, sym, ap, _∙_}
 use mathlib.Core.Option.{Option, none, some}
@@ -9,10 +9,11 @@ use lib.IntN.{ℤ}
 use Rattle.primitives.specs.declared.Fault.the-variants.{PastEnd, BeyondLimits, NegativeLength}
 use Rattle.primitives.specs.Pick.{pick}
 use Rattle.primitives.specs.Single.{Single}
-use Rattle.primitives.proofs.Single.{single-value, single-view}
+use Rattle.primitives.proofs.Single.{single-value, single-view, single-exactly}
 use Rattle.records.specs.declared.RecordFault.{RecordFault}
 use Rattle.records.specs.declared.RecordFault.the-variants.{Field, KeyNotUtf8, BytesLeft}
 use Rattle.records.specs.Rows.{Tables}
+use Rattle.writing.proofs.Single.{single-written, single-write-by}
 use Rattle.batches.specs.declared.RecordBatchTimestampType.{RecordBatchTimestampType}
 use Rattle.batches.specs.declared.RecordBatch.{RecordBatch}
 use Rattle.batches.specs.declared.ControlBatchRecord.{ControlBatchRecord}
@@ -24,7 +25,7 @@ use Rattle.batches.specs.declared.RecordTime.{RecordTime}
 use Rattle.batches.specs.Batch.{TimestampType, createTime, logAppendTime, Fields, Marker, abort, commit}
 use Rattle.batches.specs.Judgement.{Judgement, judge}
 use Rattle.batches.specs.Answers.{batchNumberOf, Kind, ofRecords, ofMarker, Answer, viewType, viewFields, viewKind, viewCount, viewCheck, viewRead, viewTime}
-use Rattle.batches.specs.Promises.{BatchNumberPromise, TotalSizePromise, CheckPromise, ReadBy, ReadPromise, RecordTimePromise}
+use Rattle.batches.specs.Promises.{BatchNumberPromise, TotalSizePromise, CheckPromise, ReadBy, ReadPromise, RecordTimePromise, MeasurePromise, WritePromise, Canonical, CanonicalPromise}
 
 pub single-batch-number : (f : BatchFault) → Single (BatchNumberPromise f)
 single-batch-number f = single-value _
@@ -173,3 +174,14 @@ time none = RecordTime.NoTime
 pub single-record-time : (b : RecordBatch) (delta : ℤ) → Single (RecordTimePromise b delta)
 single-record-time b delta =
     single-view viewTime time (λ r. elim r [ RecordTime.Time t ↦ refl | RecordTime.NoTime ↦ refl ]) _
+
+-- ---- the writer's promises, and the canonical check's
+
+pub single-measure : (b : RecordBatch) (codec : ℕ) (k : ControlBatchOrRecords) (t : Tables) (s : List ℕ) → Single (MeasurePromise b codec k t s)
+single-measure b codec k t s = single-written _
+
+pub single-write : (b : RecordBatch) (codec : ℕ) (k : ControlBatchOrRecords) (t : Tables) (s out : List ℕ) → Single (WritePromise b codec k t s out)
+single-write b codec k t s out = single-write-by _ 0 out
+
+pub single-is-canonical : (s : List ℕ) → Single (CanonicalPromise s)
+single-is-canonical s = single-exactly (Canonical s)

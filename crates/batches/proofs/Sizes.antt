@@ -18,7 +18,7 @@ use Rattle.batches.specs.Statements.{SizesOf, Sizes}
 use Rattle.batches.proofs.Passed.{passed}
 use Rattle.batches.proofs.Sound.{sound}
 
-body-rest : {strict : Bool} {bs : List ℕ} {b : Batch Record} (g : BatchBytes strict bs b) → length bs ≡ fixedPart + length (g .body)
+pub body-rest : {strict : Bool} {bs : List ℕ} {b : Batch Record} (g : BatchBytes strict bs b) → length bs ≡ fixedPart + length (g .body)
 unfolding concat
 body-rest g =
     ap length (

@@ -24,7 +24,7 @@ use Rattle.batches.specs.Answers.{ofRecords, accepts, refuses, lacksRoom
 use Rattle.batches.specs.Promises.{ReadBy}
 use Rattle.batches.specs.Opening.{judgedAs, ofRecordsRead}
 
-room-is : (first : ℕ) (rs : List RecordSpans) (t : Tables) → hasRoom (records rs) first (roomsOf t) ≡ roomy first rs t
+pub room-is : (first : ℕ) (rs : List RecordSpans) (t : Tables) → hasRoom (records rs) first (roomsOf t) ≡ roomy first rs t
 unfolding roomy
 room-is first rs t = refl
 

@@ -15,15 +15,22 @@ use mathlib.Core.Bool.{false}
 use mathlib.Core.Logic.{_⊎_}
 use mathlib.Core.List.{List, _++_}
 use lib.IntN.{pos}
-use lib.ListN.{length}
+use lib.ListN.{length, take}
+use Rattle.primitives.specs.Exactly.{Exactly}
+use Rattle.records.specs.Judgement.{RecordSpans}
 use Rattle.records.specs.Rows.{Tables}
+use Rattle.writing.specs.declared.Written.{Written}
+use Rattle.writing.specs.Promises.{WriteOutcome}
 use Rattle.batches.specs.declared.BatchCheck.{BatchCheck}
 use Rattle.batches.specs.declared.BatchRead.{BatchRead}
 use Rattle.batches.specs.Table.{table}
+use Rattle.batches.specs.Batch.{Content}
 use Rattle.batches.specs.Judgement.{more, refused, accepted, Accepted, Judgement, numberIn, Control, judgeWith, judge}
-use Rattle.batches.specs.Answers.{viewCheck, viewRead, recordsIn, headersOf, answerWithRoom, roomsOf, hasRoom, stored}
+use Rattle.batches.specs.Placed.{shownContent}
+use Rattle.batches.specs.Answers.{viewFields, viewCheck, viewRead, recordsIn, headersOf, acceptedAs, answerWithRoom, roomsOf, hasRoom, stored}
 use Rattle.batches.specs.Promises.{CheckPromise, ReadOutcome, ReadBy, ReadPromise}
-use Rattle.batches.specs.Statements.{Exactly, Within}
+use Rattle.batches.specs.Statements.{Within}
+use Rattle.batches.specs.Rewriting.{Request, Writes, Sensible, Asks}
 
 abbrev Judging : Type 0
 Judging = List ℕ → Judgement
@@ -140,3 +147,29 @@ NoRoomBy judging =
 
 abbrev pub NoRoomWith : Type 0
 NoRoomWith = (way : Control) → Within way → (at first : ℕ) → NoRoomBy (λ s. judgeWith way s at first)
+
+-- ---- "Each batch the writer accepts reads back, rows enough being lent, from its bytes with anything after them as the
+-- same batch."
+
+-- rows enough for what was asked for
+pub record Enough (c : Content RecordSpans) (t : Tables) : Type 0 where
+  pub records : recordsIn c ≤ length (t .records) / 8
+  pub headers : headersOf c ≤ length (t .headers) / 4
+
+-- What is read from the bytes s: the fields that were handed in, as many bytes as were written, and records (or a marker)
+-- that show in s what those asked for show in the source: equal deltas, nulls and bytes. Their rows stand in the tables.
+pub record SameBatch (q : Request) (c : Content RecordSpans) (n : ℕ) (s : List ℕ) (t : Tables) (o : ReadOutcome) : Type 0 where
+  pub read : Accepted
+  pub answered : viewRead (o .result) ≡ acceptedAs read
+  pub stores : o .tables ≡ stored (read .content) 0 t
+  pub fields : read .fields ≡ viewFields (q .batch)
+  pub content : shownContent s (read .content) ≡ shownContent (q .source) c
+  pub consumed : read .consumed ≡ n
+
+-- q is what is handed to the writer, o its outcome on an output, o′ the reader's on the bytes written and any after them.
+-- (The writer's numbers are of their width, and its source is of bytes: `Sensible`, Rewriting.antt.)
+abbrev pub ReadsBack : Type 0
+ReadsBack =
+    (q : Request) (c : Content RecordSpans) (out : List ℕ) (o : WriteOutcome) (n : ℕ) (after : List ℕ) (t : Tables) (o′ : ReadOutcome)
+    → Sensible q → Writes q out o → o .result ≡ Written.Bytes n → Asks q c → ReadPromise (take n (o .output) ++ after) t o′ → Enough c t
+    → SameBatch q c n (take n (o .output) ++ after) t o′

@@ -1,10 +1,10 @@
 -- Words of private contracts: none of them stands in a promise. The fixed fields as they are read, one after the other.
 use Prim.Native.Nat.{ℕ, _+_, _%_}
-use mathlib.Core.Bool.{Bool}
+use mathlib.Core.Bool.{Bool, true, false}
 use mathlib.Core.List.{List}
 use lib.Dec.{eqb, ltb}
 use lib.IntN.{ℤ, pos, negsuc}
-use lib.ListN.{take, drop}
+use lib.ListN.{getD, take, drop}
 use Rattle.primitives.specs.Pick.{pick}
 use Rattle.primitives.specs.Step.{Step, ok, no, andThen, mapStep}
 use Rattle.primitives.specs.Reading.{unsignedAt, integerAt}
@@ -227,3 +227,13 @@ abbrev pub ofRecordsRead : RecordBatch → ℕ → RecordsRead → BatchRead
 ofRecordsRead b total (RecordsRead.Accepted n m q) = BatchRead.Accepted b (ControlBatchOrRecords.Records n) m total
 ofRecordsRead b total (RecordsRead.Refused f) = BatchRead.Refused (BatchFault.Body f)
 ofRecordsRead b total (RecordsRead.NoRoom n m) = BatchRead.NoRoom n m
+
+-- ---- the canonical check
+
+abbrev pub isOk : {A : Type 0} → Step ℕ A → Bool
+isOk (ok a p) = true
+isOk (no n) = false
+
+-- the bytes of the attributes, and the highest of the count
+abbrev pub tight : List ℕ → Bool
+tight s = pick (eqb (getD s 21 0) 0) (pick (ltb (getD s 22 0) 64) (ltb (getD s 57 0) 128) false) false

@@ -1,18 +1,26 @@
--- What each public function promises of its result and of the lent tables, for every input. Lent bytes are lent to be
--- read: no function here can change them.
+-- What each public function promises of its result and of what it is lent to change, the reader's tables and the writer's
+-- output, for every input. All else is lent to be read: no function here can change it.
 use Prim.Native.Nat.{ℕ}
 use mathlib.Core.Path.{_≡_}
+use mathlib.Core.Bool.{Bool, true}
 use mathlib.Core.List.{List}
 use lib.IntN.{ℤ, pos, _+ℤ_}
+use lib.ListN.{length}
+use Rattle.primitives.specs.Exactly.{Exactly}
 use Rattle.records.specs.Rows.{Tables}
+use Rattle.writing.specs.declared.Written.{Written}
+use Rattle.writing.specs.Answers.{given, viewWritten, measured}
+use Rattle.writing.specs.Promises.{WriteOutcome, WriteBy}
 use Rattle.batches.specs.declared.RecordBatch.{RecordBatch}
+use Rattle.batches.specs.declared.ControlBatchOrRecords.{ControlBatchOrRecords}
 use Rattle.batches.specs.declared.BatchFault.{BatchFault}
 use Rattle.batches.specs.declared.BatchCheck.{BatchCheck}
 use Rattle.batches.specs.declared.BatchRead.{BatchRead}
 use Rattle.batches.specs.declared.RecordTime.{RecordTime}
 use Rattle.batches.specs.Table.{uncounted}
-use Rattle.batches.specs.Judgement.{Judgement, judge}
+use Rattle.batches.specs.Judgement.{accepted, Accepted, Judgement, judge}
 use Rattle.batches.specs.Time.{recordTime}
+use Rattle.batches.specs.Writer.{viewWanted, batchGiven, ownTables, wantedOf}
 use Rattle.batches.specs.Answers.{batchNumberOf, viewFields, viewCheck, viewRead, viewTime, answerWithRoom, roomsOf, answerOf, tablesOf}
 
 -- BatchFault::number
@@ -44,3 +52,23 @@ ReadPromise s t o = ReadBy (judge s) t o
 -- RecordBatch::record_time
 abbrev pub RecordTimePromise : RecordBatch → ℤ → RecordTime → Type 0
 RecordTimePromise b delta r = viewTime r ≡ recordTime (viewFields b) delta
+
+-- RecordBatch::measure, of fields, a codec number, a kind, tables t and a source s
+abbrev pub MeasurePromise : RecordBatch → ℕ → ControlBatchOrRecords → Tables → List ℕ → Written → Type 0
+MeasurePromise b codec kind t s r = viewWritten r ≡ measured (batchGiven (viewFields b) codec (viewWanted kind) t s)
+
+-- RecordBatch::write, the same into an output
+abbrev pub WritePromise : RecordBatch → ℕ → ControlBatchOrRecords → Tables → List ℕ → List ℕ → WriteOutcome → Type 0
+WritePromise b codec kind t s out o = WriteBy (batchGiven (viewFields b) codec (viewWanted kind) t s) 0 out o
+
+-- Document 01, the canonical check: the bytes, all of them, are one batch that is accepted, and equal what the writer gives
+-- for it, from its own rows and these bytes.
+pub record Canonical (s : List ℕ) : Type 0 where
+  pub batch : Accepted
+  pub judged : judge s ≡ accepted batch
+  pub whole : batch .consumed ≡ length s
+  pub rewritten : batchGiven (batch .fields) 0 (wantedOf (batch .content)) (ownTables (batch .content)) s ≡ given s
+
+-- RecordBatch::is_canonical, on bytes s
+abbrev pub CanonicalPromise : List ℕ → Bool → Type 0
+CanonicalPromise s r = Exactly (r ≡ true) (Canonical s)

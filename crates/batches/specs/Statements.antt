@@ -8,6 +8,7 @@ use mathlib.Core.List.{List, [], _∷_, _++_, map}
 use lib.IntN.{ℤ, pos, negsuc}
 use lib.ListN.{length, take, drop}
 use Rattle.primitives.specs.Bytes.{Bytes}
+use Rattle.primitives.specs.Exactly.{Exactly}
 use Rattle.primitives.specs.Step.{no}
 use Rattle.primitives.specs.Stands.{Stands, Encoding}
 use Rattle.primitives.specs.Shifted.{movedStep}
@@ -24,10 +25,6 @@ use Rattle.batches.specs.Judgement.{more, refused, accepted, Accepted, J
 use Rattle.batches.specs.Placed.{placedBatch, shownBatch}
 use Rattle.batches.specs.Answers.{Standing, viewCheck, viewRead}
 use Rattle.batches.specs.Promises.{CheckPromise, ReadOutcome, ReadPromise}
-
--- one exactly where the other
-abbrev pub Exactly : Type 0 → Type 0 → Type 0
-Exactly A B = (A → B) × (B → A)
 
 -- ---- the table of fixed fields
 

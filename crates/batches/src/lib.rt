@@ -1,35 +1,54 @@
-// Batches of records, read from lent bytes into lent tables. Names follow src/protocol/record.rs of rskafka 0.6.0.
+// Batches of records, read from lent bytes into lent tables, and written from lent tables and a lent source into a lent
+// output. Names follow src/protocol/record.rs of rskafka 0.6.0.
+use canonical::canonical_records;
 use crc32c::crc32c;
+use crc32c::update;
 use primitives::Cursor;
 use primitives::Fault;
+use primitives::Int8;
 use primitives::Int8Read;
 use primitives::Int16;
 use primitives::Int16Read;
+use primitives::Int32;
 use primitives::Int32Read;
+use primitives::Int64;
 use primitives::Int64Read;
+use primitives::Uint32;
 use primitives::Uint32Read;
+use primitives::put;
 use records::RecordFault;
 use records::RecordsCheck;
 use records::RecordsRead;
 use records::check_records;
 use records::read_records;
-ghost use Prim.Native.Nat.{_+_, _≤_};
+use writing::WriteFault;
+use writing::Written;
+use writing::measure_records;
+use writing::write_records;
+ghost use Prim.Native.Nat.{_+_, _-_, _≤_};
 ghost use mathlib.Core.Path.{_≡_};
+ghost use mathlib.Core.List.{_++_};
 ghost use lib.Dec.{eqb};
-ghost use lib.IntN.{_+ℤ_};
-ghost use lib.ListN.{length, drop};
+ghost use lib.IntN.{pos, _+ℤ_};
+ghost use lib.ListN.{length, take, drop};
 ghost use Rattle.primitives.specs.Pick.{pick};
 ghost use Rattle.primitives.specs.Step.{mapStep};
-ghost use Rattle.primitives.specs.Format.{complement};
+ghost use Rattle.primitives.specs.Format.{bigEndian, complement};
+ghost use Rattle.primitives.specs.Pen.{pen, emit};
 ghost use Rattle.crc32c.specs.Crc.{crc32c as sumOf};
 ghost use Rattle.records.specs.Rows.{tables};
-ghost use Rattle.batches.specs.Table.{table};
+ghost use Rattle.writing.specs.Answers.{given, mostBytes};
+ghost use Rattle.writing.specs.Promises.{WriteBy};
+ghost use Rattle.batches.specs.Table.{table, uncounted, fixedPart};
 ghost use Rattle.batches.specs.Batch.{createTime, logAppendTime, control};
+ghost use Rattle.batches.specs.Format.{timestampBit, bit};
 ghost use Rattle.batches.specs.Judgement.{unsignedIn, apart, bareMarkerAt, endedAt, judgeAt};
 ghost use Rattle.batches.specs.Time.{in64};
 ghost use Rattle.batches.specs.Answers.{viewType, viewFields, viewMarker, viewCheck, viewRead, answerWithRoom};
-ghost use Rattle.batches.specs.Opening.{leadAt, viewLead, versionAt, viewVersion, frameAt, viewFrame, viewAttributes, attributesAt, viewAttributesRead, timesAt, viewTimes, producerAt, viewProducer, atLeast0, countAt, viewCountRead, fieldsFrom, checkedAt, openingAt, viewOpening, openAt, viewOpened, viewMarkerRead, judgedAs, ofRecordsRead};
-ghost use Rattle.batches.specs.Promises.{BatchNumberPromise, TotalSizePromise, CheckPromise, ReadBy, ReadPromise, RecordTimePromise};
+ghost use Rattle.batches.specs.Opening.{isOk, tight, leadAt, viewLead, versionAt, viewVersion, frameAt, viewFrame, viewAttributes, attributesAt, viewAttributesRead, timesAt, viewTimes, producerAt, viewProducer, atLeast0, countAt, viewCountRead, fieldsFrom, checkedAt, openingAt, viewOpening, openAt, viewOpened, viewMarkerRead, judgedAs, ofRecordsRead};
+ghost use Rattle.batches.specs.Writer.{signed, writtenContent, writtenBatch, mostLength, rows, contentAsked, batchGivenBy};
+ghost use Rattle.batches.specs.Fixed.{attributesFor, frameBytes, timesBytes, producerBytes, fixedBytes, fixedBefore};
+ghost use Rattle.batches.specs.Promises.{BatchNumberPromise, TotalSizePromise, CheckPromise, ReadBy, ReadPromise, RecordTimePromise, MeasurePromise, WritePromise, CanonicalPromise};
 
 // Whose time the records have.
 pub enum RecordBatchTimestampType {
@@ -242,9 +261,16 @@ impl RecordBatch {
     // The whole fixed part.
     pub const FIXED: usize = 61;
 
+    // A whole control batch.
+    const MARKED: usize = 65;
+
     const MAGIC: i8 = 2;
-    // The bytes up to the end of the magic.
+    // The bytes up to the end of the magic, and so the place of the checksum.
     const THROUGH_MAGIC: usize = 17;
+    // The places of the attributes and of the count.
+    const ATTRIBUTES: usize = 21;
+
+    const COUNT: usize = 57;
 
     // The bytes of a batch, from any batchLength.
     pub fn total_size(batch_length: i32) -> i64
@@ -277,6 +303,91 @@ impl RecordBatch {
             return RecordTime::NoTime;
         }
         RecordTime::Time(first + delta)
+    }
+
+    // How many bytes the batch has when it is written: its marker, or records from the first rows of both tables, whose
+    // spans lie in the source. A marker looks at neither.
+    pub fn measure(
+        self,
+        codec: u8,
+        kind: ControlBatchOrRecords,
+        records: &[i64],
+        headers: &[i64],
+        source: &[u8],
+    ) -> Written
+        ensures { λ r. ⌜ MeasurePromise self codec kind (tables (now (records .entry)) (now (headers .entry))) (now (source .entry)) r ⌝ }
+    {
+        if codec != 0 {
+            return Written::Refused(WriteFault::Codec);
+        }
+        match kind {
+            ControlBatchOrRecords::ControlBatch(_) => Written::Bytes(RecordBatch::MARKED),
+            ControlBatchOrRecords::Records(count) => match measure_records(
+                records,
+                headers,
+                0,
+                count,
+                source,
+            ) {
+                Written::Bytes(size) => Written::Bytes(RecordBatch::FIXED + size),
+                Written::Refused(f) => Written::Refused(f),
+            },
+        }
+    }
+
+    // Writes the batch to the output's start. A refusal leaves the output as it was.
+    pub fn write(
+        self,
+        codec: u8,
+        kind: ControlBatchOrRecords,
+        records: &[i64],
+        headers: &[i64],
+        source: &[u8],
+        output: &mut [u8],
+    ) -> Written
+        ensures { λ r. ⌜ WritePromise self codec kind (tables (now (records .entry)) (now (headers .entry))) (now (source .entry)) (now (output .entry)) (record { result = r; output = now (output .exit) }) ⌝ }
+    {
+        if codec != 0 {
+            return Written::Refused(WriteFault::Codec);
+        }
+        match kind {
+            ControlBatchOrRecords::ControlBatch(marker) => self.write_marker(marker, output),
+            ControlBatchOrRecords::Records(count) => self.write_rows(
+                count,
+                records,
+                headers,
+                source,
+                output,
+            ),
+        }
+    }
+
+    // Whether the bytes, all of them, are one batch as the writer gives it.
+    pub fn is_canonical(bytes: &[u8]) -> bool
+        ensures { λ r. ⌜ CanonicalPromise (now (bytes .entry)) r ⌝ }
+    {
+        match open_at(bytes, 0) {
+            Opened::Got {
+                batch: _,
+                is_control,
+                count,
+                next,
+                total,
+            } => {
+                if total != bytes.len() {
+                    return false;
+                }
+                if !is_tight(bytes) {
+                    return false;
+                }
+                if is_control {
+                    return ControlBatchRecord::stands(bytes, next);
+                }
+                canonical_records(bytes, next.at, count)
+            }
+            Opened::MoreBytes(_) => false,
+            Opened::Refused(_) => false,
+        }
     }
 }
 
@@ -753,6 +864,12 @@ fn batch_of(
 }
 
 impl ControlBatchRecord {
+    const VERSION: i16 = 0;
+    // The types.
+    const ABORT: i16 = 0;
+
+    const COMMIT: i16 = 1;
+
     // The version is judged before the type is looked at.
     fn read(s: &[u8], c: Cursor) -> ControlBatchRecordRead
         ensures { λ r. ⌜ viewMarkerRead r ≡ bareMarkerAt (now (s .entry)) (c .at) ⌝ }
@@ -760,16 +877,16 @@ impl ControlBatchRecord {
         match c.read_int16(s) {
             Int16Read::Got(version, at_type) => {
                 let version = version.0;
-                if version != 0 {
+                if version != ControlBatchRecord::VERSION {
                     return ControlBatchRecordRead::Refused(BatchFault::UnknownControl);
                 }
                 match at_type.read_int16(s) {
                     Int16Read::Got(t, next) => {
                         let t = t.0;
-                        if t == 0 {
+                        if t == ControlBatchRecord::ABORT {
                             return ended(s, ControlBatchRecord::Abort, next);
                         }
-                        if t == 1 {
+                        if t == ControlBatchRecord::COMMIT {
                             return ended(s, ControlBatchRecord::Commit, next);
                         }
                         ControlBatchRecordRead::Refused(BatchFault::UnknownControl)
@@ -792,4 +909,218 @@ fn ended(s: &[u8], marker: ControlBatchRecord, c: Cursor) -> ControlBatchRecordR
         return ControlBatchRecordRead::Refused(BatchFault::Body(RecordFault::BytesLeft));
     }
     ControlBatchRecordRead::Got(marker, c)
+}
+
+impl RecordBatch {
+    fn write_marker(self, marker: ControlBatchRecord, output: &mut [u8]) -> Written
+        ensures { λ r. ⌜ WriteBy (given (writtenBatch (record { fields = viewFields self; content = control (viewMarker marker) }))) 0 (now (output .entry)) (record { result = r; output = now (output .exit) }) ⌝ }
+    {
+        if output.len() < RecordBatch::MARKED {
+            return Written::Refused(WriteFault::ShortOutput);
+        }
+        let attributes = self.attributes(true);
+        marker.put(output, RecordBatch::FIXED);
+        self.finish(attributes, Int32(1), RecordBatch::MARKED, output);
+        Written::Bytes(RecordBatch::MARKED)
+    }
+
+    // The records come first: the fixed fields in front of them have their length and checksum.
+    fn write_rows(
+        self,
+        count: usize,
+        records: &[i64],
+        headers: &[i64],
+        source: &[u8],
+        output: &mut [u8],
+    ) -> Written
+        ensures { λ r. ⌜ WriteBy (batchGivenBy (viewFields self) (now (source .entry)) (contentAsked (rows count) (tables (now (records .entry)) (now (headers .entry))) (now (source .entry)))) 0 (now (output .entry)) (record { result = r; output = now (output .exit) }) ⌝ }
+    {
+        match write_records(
+            records,
+            headers,
+            0,
+            count,
+            source,
+            output,
+            RecordBatch::FIXED,
+        ) {
+            Written::Bytes(size) => {
+                let end = RecordBatch::FIXED + size;
+                let attributes = self.attributes(false);
+                self.finish(attributes, Int32(count as i32), end, output);
+                Written::Bytes(end)
+            }
+            Written::Refused(f) => Written::Refused(f),
+        }
+    }
+
+    // Puts the fixed fields in front of a body, which stands in its place in the output and ends at `end`.
+    fn finish(self, attributes: Int16, count: Int32, end: usize, output: &mut [u8])
+        requires { ⌜ (fixedPart ≤ end) × (end ≤ uncounted + mostLength) × (end ≤ length (now output)) ⌝ }
+        ensures { λ r. ⌜ now (output .exit) ≡ fixedBefore (viewFields self) (attributes .0) (count .0) (take (end - fixedPart) (drop fixedPart (now (output .entry)))) ++ drop fixedPart (now (output .entry)) ⌝ }
+    {
+        let fixed = self.fixed_before(attributes, count, &output[RecordBatch::FIXED..end]);
+        put(&fixed, output, 0);
+    }
+
+    // The fixed fields of a batch with this body. The checksum is over some of them, so it is put in last.
+    fn fixed_before(self, attributes: Int16, count: Int32, body: &[u8]) -> [u8; 61]
+        requires { ⌜ length (now body) ≤ mostBytes ⌝ }
+        ensures { λ r. ⌜ r ≡ fixedBefore (viewFields self) (attributes .0) (count .0) (now (body .entry)) ⌝ }
+    {
+        let counted = RecordBatch::UNCHECKED + RecordBatch::FIXED_CHECKED + body.len();
+        let batch_length = Int32(counted as i32);
+        let mut bytes = self.fixed(batch_length, Uint32(0), attributes, count);
+        let checked = crc32c(&bytes[RecordBatch::ATTRIBUTES..RecordBatch::FIXED]);
+        let crc = update(checked, body);
+        put_uint32(Uint32(crc), &mut bytes, RecordBatch::THROUGH_MAGIC);
+        bytes
+    }
+
+    // The fixed fields, field by field.
+    fn fixed(self, batch_length: Int32, crc: Uint32, attributes: Int16, count: Int32) -> [u8; 61]
+        ensures { λ r. ⌜ r ≡ fixedBytes (viewFields self) («batch_length» .0) (crc .0) (attributes .0) (count .0) ⌝ }
+    {
+        let mut bytes = [0u8; 61];
+        let at_attributes = self.put_frame(batch_length, crc, &mut bytes, 0);
+        let at_producer = self.put_times(attributes, &mut bytes, at_attributes);
+        self.put_producer(count, &mut bytes, at_producer);
+        bytes
+    }
+
+    // The attributes, in the one place where they are put together. The codec is 0, and so are the bits above bit 5.
+    fn attributes(self, is_control: bool) -> Int16
+        ensures { λ r. ⌜ r .0 ≡ pos (attributesFor (viewFields self) «is_control») ⌝ }
+    {
+        let timestamp_type = self.timestamp_type;
+        let timestamp = timestamp_bit(timestamp_type);
+        let transactional = flag(self.is_transactional);
+        let control = flag(is_control);
+        Int16((8 * timestamp + 16 * transactional + 32 * control) as i16)
+    }
+
+    // Up to the checksum.
+    fn put_frame(self, batch_length: Int32, crc: Uint32, output: &mut [u8], at: usize) -> usize
+        ensures { λ r. ⌜ pen r (now (output .exit)) ≡ emit (frameBytes (viewFields self) («batch_length» .0) (crc .0)) (pen at (now (output .entry))) ⌝ }
+    {
+        let at_length = put_int64(Int64(self.base_offset), output, at);
+        let at_epoch = put_int32(batch_length, output, at_length);
+        let at_magic = put_int32(Int32(self.partition_leader_epoch), output, at_epoch);
+        let at_crc = put_int8(Int8(RecordBatch::MAGIC), output, at_magic);
+        put_uint32(crc, output, at_crc)
+    }
+
+    fn put_times(self, attributes: Int16, output: &mut [u8], at: usize) -> usize
+        ensures { λ r. ⌜ pen r (now (output .exit)) ≡ emit (timesBytes (viewFields self) (attributes .0)) (pen at (now (output .entry))) ⌝ }
+    {
+        let at_delta = put_int16(attributes, output, at);
+        let at_first = put_int32(Int32(self.last_offset_delta), output, at_delta);
+        let at_max = put_int64(Int64(self.first_timestamp), output, at_first);
+        put_int64(Int64(self.max_timestamp), output, at_max)
+    }
+
+    fn put_producer(self, count: Int32, output: &mut [u8], at: usize) -> usize
+        ensures { λ r. ⌜ pen r (now (output .exit)) ≡ emit (producerBytes (viewFields self) (count .0)) (pen at (now (output .entry))) ⌝ }
+    {
+        let at_epoch = put_int64(Int64(self.producer_id), output, at);
+        let at_sequence = put_int16(Int16(self.producer_epoch), output, at_epoch);
+        let at_count = put_int32(Int32(self.base_sequence), output, at_sequence);
+        put_int32(count, output, at_count)
+    }
+}
+
+impl ControlBatchRecord {
+    fn put(self, output: &mut [u8], at: usize) -> usize
+        ensures { λ r. ⌜ pen r (now (output .exit)) ≡ emit (writtenContent (control (viewMarker self))) (pen at (now (output .entry))) ⌝ }
+    {
+        let at_type = put_int16(Int16(ControlBatchRecord::VERSION), output, at);
+        match self {
+            ControlBatchRecord::Abort => put_int16(
+                Int16(ControlBatchRecord::ABORT),
+                output,
+                at_type,
+            ),
+            ControlBatchRecord::Commit => put_int16(
+                Int16(ControlBatchRecord::COMMIT),
+                output,
+                at_type,
+            ),
+        }
+    }
+}
+
+fn timestamp_bit(t: RecordBatchTimestampType) -> u16
+    ensures { λ r. ⌜ r ≡ timestampBit (viewType t) ⌝ }
+{
+    match t {
+        RecordBatchTimestampType::CreateTime => 0,
+        RecordBatchTimestampType::LogAppendTime => 1,
+    }
+}
+
+fn flag(set: bool) -> u16
+    ensures { λ r. ⌜ r ≡ bit set ⌝ }
+{
+    if set { 1 } else { 0 }
+}
+
+fn put_int8(n: Int8, output: &mut [u8], at: usize) -> usize
+    ensures { λ r. ⌜ pen r (now (output .exit)) ≡ emit (signed 1 (n .0)) (pen at (now (output .entry))) ⌝ }
+{
+    let bytes = n.to_be_bytes();
+    put(&bytes, output, at)
+}
+
+fn put_int16(n: Int16, output: &mut [u8], at: usize) -> usize
+    ensures { λ r. ⌜ pen r (now (output .exit)) ≡ emit (signed 2 (n .0)) (pen at (now (output .entry))) ⌝ }
+{
+    let bytes = n.to_be_bytes();
+    put(&bytes, output, at)
+}
+
+fn put_int32(n: Int32, output: &mut [u8], at: usize) -> usize
+    ensures { λ r. ⌜ pen r (now (output .exit)) ≡ emit (signed 4 (n .0)) (pen at (now (output .entry))) ⌝ }
+{
+    let bytes = n.to_be_bytes();
+    put(&bytes, output, at)
+}
+
+fn put_int64(n: Int64, output: &mut [u8], at: usize) -> usize
+    ensures { λ r. ⌜ pen r (now (output .exit)) ≡ emit (signed 8 (n .0)) (pen at (now (output .entry))) ⌝ }
+{
+    let bytes = n.to_be_bytes();
+    put(&bytes, output, at)
+}
+
+fn put_uint32(n: Uint32, output: &mut [u8], at: usize) -> usize
+    ensures { λ r. ⌜ pen r (now (output .exit)) ≡ emit (bigEndian 4 (n .0)) (pen at (now (output .entry))) ⌝ }
+{
+    let bytes = n.to_be_bytes();
+    put(&bytes, output, at)
+}
+
+// What is read and never written shows in three bytes of the fixed fields: attribute bits above bit 5, and a count of -1.
+fn is_tight(bytes: &[u8]) -> bool
+    requires { ⌜ fixedPart ≤ length (now bytes) ⌝ }
+    ensures { λ r. ⌜ r ≡ tight (now (bytes .entry)) ⌝ }
+{
+    if bytes[RecordBatch::ATTRIBUTES] != 0 {
+        return false;
+    }
+    if 64 <= bytes[RecordBatch::ATTRIBUTES + 1] {
+        return false;
+    }
+    bytes[RecordBatch::COUNT] < 128
+}
+
+impl ControlBatchRecord {
+    // Whether a marker stands at the cursor and ends where `s` ends.
+    fn stands(s: &[u8], c: Cursor) -> bool
+        ensures { λ r. ⌜ r ≡ isOk (bareMarkerAt (now (s .entry)) (c .at)) ⌝ }
+    {
+        match ControlBatchRecord::read(s, c) {
+            ControlBatchRecordRead::Got(_, _) => true,
+            ControlBatchRecordRead::Refused(_) => false,
+        }
+    }
 }

@@ -1,0 +1,67 @@
+-- The canonical bytes are those of the strict grammar: what the writer gives of a batch that was read is an encoding of it
+-- by that grammar, which has no other. Assumes nothing.
+use Prim.Native.Nat.{ℕ, _+_}
+use mathlib.Core.Path.{_≡_, refl, sym, ap, _∙_, subst}
+use mathlib.Core.Bool.{true}
+use mathlib.Core.List.{List}
+use native.Mathlib.Omega.{arith}
+use native.Mathlib.Nat.{zero-add}
+use borrow.Author.Tests.{le-leb}
+use lib.ListN.{length}
+use Rattle.primitives.specs.Bytes.{Bytes}
+use Rattle.primitives.proofs.Places.{whole}
+use Rattle.records.specs.Format.{Record}
+use Rattle.writing.specs.declared.Written.{Written}
+use Rattle.writing.specs.Answers.{given, answerDue, outputDue}
+use Rattle.writing.proofs.Single.{single-written}
+use Rattle.batches.specs.Batch.{Batch}
+use Rattle.batches.specs.Format.{BatchBytes}
+use Rattle.batches.specs.Placed.{placedBatch, shownBatch}
+use Rattle.batches.specs.Writer.{writtenBatch}
+use Rattle.batches.specs.Promises.{Canonical}
+use Rattle.batches.specs.Rewriting.{CanonicalStrict, CanonicalAgain}
+use Rattle.batches.proofs.Complete.{complete}
+use Rattle.batches.proofs.Only.{batch-written}
+use Rattle.batches.proofs.Outcomes.{given-same}
+use Rattle.batches.proofs.Own.{rewritten, Own, own, own-tables-given}
+use Rattle.batches.proofs.Again.{again}
+use Rattle.batches.proofs.Verdicts.{same-accepted}
+
+-- what is written of the batch that canonical bytes show is these bytes
+module _ (s : List ℕ) (bytes : Bytes s) (c : Canonical s) where
+  canonical-own : Own s (c .batch)
+  canonical-own = own s (c .batch) bytes (c .judged)
+
+  canonical-written : rewritten s (c .batch) ≡ s
+  canonical-written = given-same (sym (own-tables-given canonical-own) ∙ c .rewritten)
+
+  canonical-encodes : BatchBytes true s (shownBatch s (c .batch))
+  canonical-encodes = subst (λ (bs : List ℕ). BatchBytes true bs (shownBatch s (c .batch))) canonical-written (canonical-own .encodes)
+
+strict-canonical : (s : List ℕ) (b : Batch Record) → Bytes s → BatchBytes true s b → Canonical s
+strict-canonical s b bytes g =
+    let (judged, shows) = complete true s 0 0 (length s) s b (whole s) g in
+    let o = own s (placedBatch 0 0 g) bytes judged in
+    record {
+      batch = placedBatch 0 0 g;
+      judged = judged;
+      whole = refl;
+      rewritten = own-tables-given o ∙ ap given (ap writtenBatch shows ∙ sym (batch-written g));
+    }
+
+pub canonical-strict : CanonicalStrict
+canonical-strict s bytes =
+    (λ c. (shownBatch s (c .batch), canonical-encodes s bytes c), λ (b, g). strict-canonical s b bytes g)
+
+-- ---- read and written again
+
+pub canonical-again : CanonicalAgain
+canonical-again s t o b kind headers consumed out w bytes canonical p e h q =
+    let c = canonical .0 refl in
+    let x = again s t o b kind headers consumed bytes e p in
+    let same : x .batch ≡ c .batch = same-accepted (sym (x .judged) ∙ c .judged) in
+    let gives = x .gives ∙ ap given (ap (rewritten s) same ∙ canonical-written s bytes c) in
+    let room = le-leb (0 + length s) (length out) (omega arith) in (
+      single-written _ (w .result) (Written.Bytes (length s)) (q .answer ∙ ap (answerDue 0 out) gives ∙ rw room) refl,
+      q .output ∙ ap (outputDue 0 out) gives ∙ rw (room, zero-add),
+    )

@@ -1,0 +1,23 @@
+-- `batches::ControlBatchRecord::stands` meets its contract. Assumes nothing.
+use borrow.Author.Needs.{needs}
+use Rattle.batches.proofs.Markers.{marker-there, marker-missing}
+use Rattle.batches.proofs.ControlBatchRecord.stands.Statement.{statement}
+use Rattle.batches.proofs.ControlBatchRecord.stands.Tie as tie
+
+read-requires : tie.Need-read-requires
+read-requires c κs = search needs
+
+enum-told : tie.Need-enum-told
+enum-told c = search needs
+
+enum-told-2 : tie.Need-enum-told-2
+enum-told-2 c = search needs
+
+returns : tie.Need-returns
+returns c = search marker-there
+
+returns-2 : tie.Need-returns-2
+returns-2 c = search marker-missing
+
+pub stands-spec : {M : Type 1} → statement M
+stands-spec = tie.close (tie.spec read-requires enum-told enum-told-2 returns returns-2)

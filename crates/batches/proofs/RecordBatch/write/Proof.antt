@@ -1,0 +1,46 @@
+-- `batches::RecordBatch::write` meets its contract. Assumes nothing.
+use borrow.Author.Needs.{needs}
+use Rattle.batches.proofs.Giving.{write-codec, write-marked, write-asked}
+use Rattle.batches.proofs.RecordBatch.write.Statement.{statement}
+use Rattle.batches.proofs.RecordBatch.write.Tie as tie
+
+returns : tie.Need-returns
+returns c = search write-codec
+
+enum-known-kind : tie.Need-enum-known-kind
+enum-known-kind c = search needs
+
+write-marker-requires : tie.Need-write-marker-requires
+write-marker-requires c κs = search needs
+
+enum-known-kind-2 : tie.Need-enum-known-kind-2
+enum-known-kind-2 c = search needs
+
+write-rows-requires : tie.Need-write-rows-requires
+write-rows-requires c κs = search needs
+
+same-length : tie.Need-same-length
+same-length c = search needs
+
+returns-2 : tie.Need-returns-2
+returns-2 c = search write-marked
+
+same-length-2 : tie.Need-same-length-2
+same-length-2 c = search needs
+
+returns-3 : tie.Need-returns-3
+returns-3 c = search write-asked
+
+pub write-spec : {M : Type 1} → statement M
+write-spec =
+    tie.close
+    (tie.spec
+    returns
+    enum-known-kind
+    write-marker-requires
+    enum-known-kind-2
+    write-rows-requires
+    same-length
+    returns-2
+    same-length-2
+    returns-3)

@@ -1,0 +1,349 @@
+-- A batch of the grammar is one of the strict grammar where three bytes of its fixed fields are low and its marker or its
+-- records are strict; and there they are. So what was opened of all the bytes, these bytes and the content tell whether
+-- the bytes are canonical. The premises have the form in which a proof finds them. Assumes nothing.
+use Prim.Native.Nat.{ℕ, _+_, _*_, _^_, _≤_, _<_}
+use mathlib.Core.Path.{_≡_, refl, sym, ap, _∙_, subst, subst₂}
+use mathlib.Core.Bool.{Bool, true, false, not}
+use mathlib.Core.List.{List}
+use native.Mathlib.Omega.{arith}
+use native.Mathlib.Decide.{decLt}
+use borrow.Author.Tests.{not-true, not-false, eqb-true, ltb-true, lt-ltb, le-ltb, eq-eqb, ne-eqb}
+use lib.Dec.{eqb, ltb}
+use lib.IntN.{ℤ, pos, negsuc}
+use lib.ListN.{length, getD, take, drop, length-take, length-map}
+use lib.Seq.{take-all}
+use mir.Syntax.{w8}
+use mir.Val.{Fits}
+use Rattle.primitives.specs.declared.Cursor.{Cursor}
+use Rattle.primitives.specs.Bytes.{Bytes}
+use Rattle.primitives.specs.Step.{Step, ok, no, mapStep}
+use Rattle.primitives.specs.Stands.{Stands}
+use Rattle.primitives.specs.Format.{Unsigned}
+use Rattle.primitives.specs.Reading.{big, signedBy}
+use Rattle.primitives.proofs.Integers.{signed-low, signed-high}
+use Rattle.primitives.proofs.Picks.{both-hold, picked}
+use Rattle.primitives.proofs.Places.{whole, all-left}
+use Rattle.primitives.proofs.Steps.{map-ok}
+use Rattle.crc32c.specs.Crc.{crc32c}
+use Rattle.records.specs.Format.{Record, RecordsBytes}
+use Rattle.records.specs.Judgement.{RecordSpans, recordsAt}
+use Rattle.records.specs.Placed.{placedRecords, shownRecord}
+use Rattle.records.proofs.Complete.{records-complete}
+use Rattle.records.proofs.Shows.{records-shows}
+use Rattle.records.proofs.Sound.{records-sound}
+use Rattle.canonical.specs.Promises.{StandStrictly, CanonicalRecordsPromise}
+use Rattle.batches.specs.declared.RecordBatch.{RecordBatch}
+use Rattle.batches.specs.declared.BatchFault.{BatchFault}
+use Rattle.batches.specs.declared.Frame.{Frame}
+use Rattle.batches.specs.declared.Opened.{Opened}
+use Rattle.batches.specs.Table.{table}
+use Rattle.batches.specs.Batch.{Fields, Marker, Content, control, records, Batch}
+use Rattle.batches.specs.Format.{attributesOf, Counts, exactly, minusOne, ContentBytes, BatchBytes}
+use Rattle.batches.specs.Judgement.{Judged, more, refused, accepted, Accepted, unsignedIn, attributesIn, openedAt, contentAt, bareMarkerAt, judge}
+use Rattle.batches.specs.Placed.{placedContent, placedBatch, shownBatch}
+use Rattle.batches.specs.Answers.{viewFields}
+use Rattle.batches.specs.Opening.{Known, KnownAt, fieldsBeside, openingAt, knownAt, frameAt, openBy, openAt, viewOpened, asAccepted, judgedAs, isOk, tight}
+use Rattle.batches.specs.Promises.{Canonical, CanonicalPromise}
+use Rattle.batches.proofs.Apart.{timestamp-small, bit-small, control-small}
+use Rattle.batches.proofs.Canonical.{canonical-strict}
+use Rattle.batches.proofs.Complete.{complete}
+use Rattle.batches.proofs.Judging.{judgedFrom, judge-opened}
+use Rattle.batches.proofs.Only.{exact-count}
+use Rattle.batches.proofs.Parts.{parts-stand}
+use Rattle.batches.proofs.Sound.{sound}
+use Rattle.batches.proofs.Tests.{Openings, opened, openings}
+use Rattle.batches.proofs.Verdicts.{more-not-accepted, refused-not-accepted, same-accepted}
+
+-- ---- the three bytes
+
+module _ (s : List ℕ) where
+  pub tight-first : (getD s 21 0 ≡ 0 → ⊥) → false ≡ tight s
+  tight-first h = rw (ne-eqb (getD s 21 0) 0 h)
+
+  module _ (e : getD s 21 0 ≡ 0) where
+    pub tight-second : 64 ≤ getD s 22 0 → false ≡ tight s
+    tight-second h = rw (eq-eqb (getD s 21 0) 0 e, le-ltb (getD s 22 0) 64 h)
+
+    pub tight-third : getD s 22 0 < 64 → ltb (getD s 57 0) 128 ≡ tight s
+    tight-third h = rw (eq-eqb (getD s 21 0) 0 e, lt-ltb (getD s 22 0) 64 h)
+
+  record Low : Type 0 where
+    first : getD s 21 0 ≡ 0
+    second : getD s 22 0 < 64
+    third : getD s 57 0 < 128
+
+  tight-low : tight s ≡ true → Low
+  tight-low e =
+      let (a, f) = both-hold (eqb (getD s 21 0) 0) _ e in
+      let (b, c) = both-hold (ltb (getD s 22 0) 64) _ f in
+      record { first = eqb-true _ _ a; second = ltb-true _ _ b; third = ltb-true _ _ c }
+
+  low-tight : Low → tight s ≡ true
+  low-tight l = sym (tight-third (l .first) (l .second)) ∙ lt-ltb (getD s 57 0) 128 (l .third)
+
+  attributes-are : big 2 s 21 ≡ 256 * getD s 21 0 + getD s 22 0
+  unfolding big
+  attributes-are = omega arith
+
+  count-is : big 4 s 57 ≡ 256 * (256 * (256 * getD s 57 0 + getD s 58 0) + getD s 59 0) + getD s 60 0
+  unfolding big
+  count-is = omega arith
+
+-- ---- the strict grammar
+
+pos-not-negsuc : {X : Type 0} {n k : ℕ} → pos n ≡ negsuc k → X
+pos-not-negsuc e = let z : _≡_ {A = ℕ} 0 1 = cc in absurd (omega arith)
+
+counts-exactly : {z : ℤ} {n v : ℕ} → z ≡ pos v → Counts false z n → Counts true z n
+counts-exactly e exactly = exactly
+counts-exactly e minusOne = pos-not-negsuc (sym e)
+
+module _ (s : List ℕ) (b : Batch Record) (bytes : Bytes s) where
+  -- low bytes leave no higher bits and no count below 0
+  strictly : (g : BatchBytes false s b) → Low s → ContentBytes true (g .body) (b .content) → BatchBytes true s b
+  strictly g low holds =
+      let y = parts-stand (whole s) g in
+      let below : big 4 s 57 < 2 ^ 31 = omega (arith, count-is s, low .third, bytes 58, bytes 59, bytes 60) in
+      let positive : g .count ≡ pos (big 4 s 57) = sym (y .count) ∙ signed-low (2 ^ 31) (big 4 s 57) below in
+      let same : attributesOf false (g .higher) b ≡ attributesOf true 0 b
+      = omega (
+        arith,
+        y .attributes,
+        attributes-are s,
+        low .first,
+        low .second,
+        timestamp-small (b .fields .timestampType),
+        bit-small (b .fields .transactional),
+        control-small (b .content),
+      ) in
+      record {
+        part = g .part;
+        body = g .body;
+        checked = g .checked;
+        counted = g .counted;
+        higher = 0;
+        count = g .count;
+        is = g .is;
+        countedIs = g .countedIs;
+        checkedIs = g .checkedIs;
+        baseOffset = g .baseOffset;
+        batchLength = g .batchLength;
+        partitionLeaderEpoch = g .partitionLeaderEpoch;
+        magic = g .magic;
+        crc = g .crc;
+        attributes = subst (Unsigned 2 (g .part .attributes)) same (g .attributes);
+        lastOffsetDelta = g .lastOffsetDelta;
+        firstTimestamp = g .firstTimestamp;
+        maxTimestamp = g .maxTimestamp;
+        producerId = g .producerId;
+        producerEpoch = g .producerEpoch;
+        baseSequence = g .baseSequence;
+        numbered = g .numbered;
+        counts = counts-exactly positive (g .counts);
+        holds = holds;
+      }
+
+  -- and back
+  count-low : (v n : ℕ) → signedBy (2 ^ 31) v ≡ pos n → v < 2 ^ 31
+  count-low v n e =
+      elim (decLt v (2 ^ 31)) [
+        | yes h ↦ h
+        | Dec.no h ↦ pos-not-negsuc (sym e ∙ signed-high (2 ^ 31) v (omega arith))
+      ]
+
+  strict-low : BatchBytes true s b → Low s
+  strict-low g =
+      let y = parts-stand (whole s) g in
+      let small : 256 * getD s 21 0 + getD s 22 0 < 64
+      = omega (
+        arith,
+        y .attributes,
+        attributes-are s,
+        timestamp-small (b .fields .timestampType),
+        bit-small (b .fields .transactional),
+        control-small (b .content),
+      ) in
+      let below = count-low (big 4 s 57) _ (y .count ∙ exact-count (g .counts)) in
+      record { first = omega arith; second = omega arith; third = omega (arith, count-is s) }
+
+-- ---- what was opened
+
+known-from : (total : ℕ) (x : Step ℕ Known) (o : KnownAt) → knownAt total x ≡ accepted o → x ≡ ok (o .known) (o .next)
+known-from total (ok k p) o e = ap (λ (y : KnownAt). ok (y .known) (y .next)) (same-accepted e)
+known-from total (no n) o e = refused-not-accepted e
+
+opened-ends : (w : List ℕ) (at n p : ℕ) → Openings w at (ok n p) → (p ≡ at + 61) × (at + 61 ≤ length w)
+opened-ends w at n _ (opened h c t o) = (refl, h)
+
+opening-ends : (base epoch : ℤ) (w : List ℕ) (at : ℕ) {k : Known} {p : ℕ} → openingAt base epoch w at ≡ ok k p → (p ≡ at + 61) × (at + 61 ≤ length w)
+unfolding openingAt
+opening-ends base epoch w at {p = p} e =
+    let known : ℕ → Known = λ n. record { fields = fieldsBeside base epoch w at; control = attributesIn w at .control; count = n } in
+    let (_, i) = picked (eqb (unsignedIn (table .crc) w at) (crc32c (drop (at + 21) w))) (mapStep known (openedAt w at)) 4 e in
+    let (n, j, _) = map-ok known (openedAt w at) i in
+    opened-ends w at n p (subst (Openings w at) j (openings w at))
+
+-- the place after the fixed fields, which are there
+open-ends : (s : List ℕ) (at : ℕ) (y : Judged Frame) (o : KnownAt) → openBy s at y ≡ accepted o → (o .next ≡ at + 61) × (at + 61 ≤ length s)
+open-ends s at (more n) o e = more-not-accepted e
+open-ends s at (refused n) o e = refused-not-accepted e
+open-ends s at (accepted x) o e =
+    let (end, within) = opening-ends _ _ (take (at + x .total) s) at (known-from (x .total) _ o e) in
+    (end, omega (arith, within, length-take (at + x .total) s))
+
+-- what is accepted had a marker or records
+judged-as : (x : Fields) (first total : ℕ) (y : Step ℕ (Content RecordSpans)) {a : Accepted} → judgedAs x first total y ≡ accepted a
+    → (c : Content RecordSpans) × (p : ℕ) × (y ≡ ok c p) × (a ≡ asAccepted x first total c)
+judged-as x first total (ok c p) e = (c, p, refl, sym (same-accepted e))
+judged-as x first total (no n) e = refused-not-accepted e
+
+-- ---- the marker or the records
+
+is-ok : {A : Type 0} {x : Step ℕ A} → isOk x ≡ true → (a : A) × (p : ℕ) × (x ≡ ok a p)
+is-ok {x = ok a p} e = (a, p, refl)
+is-ok {x = no n} e = let z : _≡_ {A = ℕ} 0 1 = cc in absurd (omega arith)
+
+-- strict content whose spans are those of records
+stands-strictly : {s : List ℕ} {p : ℕ} {bs : List ℕ} (v : Content Record) → Stands s p (length s) bs → (g : ContentBytes true bs v)
+    → {n : ℕ} (spans : List RecordSpans) → placedContent true bs v p g ≡ records spans → length spans ≡ n → StandStrictly s p n
+stands-strictly (control m) x g spans e many = let z : _≡_ {A = ℕ} 0 1 = cc in absurd (omega arith)
+stands-strictly {s} {p} {bs} (records rs) x g spans e many =
+    let same : placedRecords p g ≡ spans = cc in
+    let count = ap length (sym (records-shows x g)) ∙ length-map (placedRecords p g) (shownRecord s) ∙ ap length same ∙ many in
+    (rs, record { bytes = bs; stands = x; encodes = g }, count)
+
+-- ---- the answer
+
+never : (s : List ℕ) → (Canonical s → ⊥) → CanonicalPromise s false
+never s h = (λ e. absurd (let z : _≡_ {A = ℕ} 0 1 = cc in omega arith), λ c. absurd (h c))
+
+module _ (s : List ℕ) (fits : (i : ℕ) → Fits w8 (getD s i 0)) where
+  bytes-are : Bytes s
+  bytes-are i = fits i .fits
+
+  strict-canonical : (b : Batch Record) → BatchBytes true s b → Canonical s
+  strict-canonical b g = canonical-strict s bytes-are .1 (b, g)
+
+  -- the same batch, by the grammar
+  accepted-all : (a : Accepted) → judge s ≡ accepted a → a .consumed ≡ length s → BatchBytes false s (shownBatch s a)
+  accepted-all a j all =
+      let (e, _) = sound s 0 0 a bytes-are j in
+      let end : 0 + a .consumed ≡ length s = omega arith in
+      subst (λ (bs : List ℕ). BatchBytes false bs (shownBatch s a))
+      (sym (all-left (subst (λ (q : ℕ). Stands s 0 q (e .bytes)) end (e .stands)))) (e .encodes)
+
+  module _ (a : Opened) (e : viewOpened a ≡ openAt s 0) where
+    judged : (x : Opened) → a ≡ x → judge s ≡ judgedFrom bareMarkerAt s 0 0 (viewOpened x)
+    judged x f = judge-opened bareMarkerAt s 0 0 ∙ ap (judgedFrom bareMarkerAt s 0 0) (sym e ∙ ap viewOpened f)
+
+    pub canonical-more : (n : ℕ) → a ≡ Opened.MoreBytes n → CanonicalPromise s false
+    canonical-more n f = never s (λ c. more-not-accepted (sym (judged (Opened.MoreBytes n) f) ∙ c .judged))
+
+    pub canonical-refused : (h : BatchFault) → a ≡ Opened.Refused h → CanonicalPromise s false
+    canonical-refused h f = never s (λ c. refused-not-accepted (sym (judged (Opened.Refused h) f) ∙ c .judged))
+
+    module _ (b : RecordBatch) (isControl : Bool) (n : ℕ) (next : Cursor) (total : ℕ) (f : a ≡ Opened.Got b isControl n next total) where
+      abbrev known : KnownAt
+      known = record { known = record { fields = viewFields b; control = isControl; count = n }; next = next .at; total = total }
+
+      ends : (next .at ≡ 0 + 61) × (0 + 61 ≤ length s)
+      ends = open-ends s 0 (frameAt s 0) known (sym e ∙ ap viewOpened f)
+
+      pub opened-fixed : 61 ≤ length s
+      opened-fixed = omega (arith, ends .1)
+
+      -- the marker or the records, in the batch's window
+      abbrev inside : Step ℕ (Content RecordSpans)
+      inside = contentAt bareMarkerAt isControl (take (0 + total) s) n (next .at)
+
+      judged-inside : judge s ≡ judgedAs (viewFields b) 0 total inside
+      judged-inside = judged (Opened.Got b isControl n next total) f
+
+      pub canonical-longer : (total ≡ length s → ⊥) → CanonicalPromise s false
+      canonical-longer h =
+          never s (λ c.
+          let (_, _, _, is) = judged-as (viewFields b) 0 total inside (sym judged-inside ∙ c .judged) in
+          h (sym (ap (λ (x : Accepted). x .consumed) is) ∙ c .whole))
+
+      module _ (all : total ≡ length s) (t : Bool) (tested : t ≡ tight s) where
+        pub canonical-loose : not t ≡ true → CanonicalPromise s false
+        canonical-loose h =
+            never s (λ c.
+            let (b′, g) = canonical-strict s bytes-are .0 c in
+            let low = tested ∙ low-tight s (strict-low s b′ bytes-are g) in
+            let z : _≡_ {A = Bool} true false = sym low ∙ not-true t h in
+            let w : _≡_ {A = ℕ} 0 1 = cc in
+            omega arith)
+
+        module _ (passed : not t ≡ false) where
+          -- the window is all of the bytes
+          window : take (0 + total) s ≡ s
+          window = take-all (0 + total) s (omega arith)
+
+          abbrev read : Bool → Step ℕ (Content RecordSpans)
+          read k = contentAt bareMarkerAt k s n (next .at)
+
+          inside-is : (k : Bool) → isControl ≡ k → inside ≡ read k
+          inside-is k h = λ i. contentAt bareMarkerAt (h i) (window i) n (next .at)
+
+          abbrev accepts : Content RecordSpans → Accepted
+          accepts c = asAccepted (viewFields b) 0 total c
+
+          -- what was read is what was accepted
+          read-judged : (k : Bool) → isControl ≡ k → (c : Content RecordSpans) (p : ℕ) → read k ≡ ok c p → judge s ≡ accepted (accepts c)
+          read-judged k h c p r = judged-inside ∙ ap (judgedAs (viewFields b) 0 total) (inside-is k h ∙ r)
+
+          judged-read : (k : Bool) → isControl ≡ k → (x : Accepted) → judge s ≡ accepted x
+              → (c : Content RecordSpans) × (p : ℕ) × (read k ≡ ok c p) × (x ≡ accepts c)
+          judged-read k h x j =
+              let (c, p, r, is) = judged-as (viewFields b) 0 total inside (sym judged-inside ∙ j) in
+              (c, p, sym (inside-is k h) ∙ r, is)
+
+          abbrev grammar : Content RecordSpans → Type 0
+          grammar c = BatchBytes false s (shownBatch s (accepts c))
+
+          read-canonical : (c : Content RecordSpans) (g : grammar c) → ContentBytes true (g .body) (shownBatch s (accepts c) .content) → Canonical s
+          read-canonical c g holds =
+              strict-canonical (shownBatch s (accepts c)) (strictly s _ bytes-are g (tight-low s (sym tested ∙ not-false t passed)) holds)
+
+          -- ---- a marker
+
+          pub canonical-marker : isControl ≡ true → (r : Bool) → r ≡ isOk (bareMarkerAt s (next .at)) → CanonicalPromise s r
+          canonical-marker h r e′ = (λ t. stands (is-ok (sym e′ ∙ t)), λ c. e′ ∙ reads c)
+            where
+              stands : (m : Marker) × (p : ℕ) × (bareMarkerAt s (next .at) ≡ ok m p) → Canonical s
+              stands (m, p, i) =
+                  let g = accepted-all (accepts (control m)) (read-judged true h (control m) p (ap (mapStep control) i)) all in
+                  read-canonical (control m) g (g .holds)
+
+              reads : Canonical s → isOk (bareMarkerAt s (next .at)) ≡ true
+              reads c =
+                  let (_, _, i, _) = judged-read true h (c .batch) (c .judged) in
+                  let (_, j, _) = map-ok control (bareMarkerAt s (next .at)) i in
+                  ap isOk j
+
+          -- ---- records
+
+          pub canonical-rows : isControl ≡ false → (r : Bool) → CanonicalRecordsPromise s (next .at) n r → CanonicalPromise s r
+          canonical-rows h r (told, tells) = (λ t. stands (told t), λ c. tells (strict c))
+            where
+              stands : StandStrictly s (next .at) n → Canonical s
+              stands (rs, x, many) =
+                  let (i, shows) = records-complete true s (next .at) (x .bytes) rs (x .stands) (x .encodes) in
+                  let spans = placedRecords (next .at) (x .encodes) in
+                  let reads = ap (mapStep records) (ap (λ (k : ℕ). recordsAt s k (next .at)) (sym many) ∙ i) in
+                  let g = accepted-all (accepts (records spans)) (read-judged false h (records spans) (length s) reads) all in
+                  let body : x .bytes ≡ g .body
+                  = sym (all-left (x .stands)) ∙ ap (λ (p : ℕ). drop p s) (ends .0) ∙ all-left (parts-stand (whole s) g .body) in
+                  read-canonical (records spans) g (subst₂ (RecordsBytes true) body (sym shows) (x .encodes))
+
+              strict : Canonical s → StandStrictly s (next .at) n
+              strict c =
+                  let (b′, g) = canonical-strict s bytes-are .0 c in
+                  let (k, p, i, is) = judged-read false h (placedBatch 0 0 g) (complete true s 0 0 (length s) s b′ (whole s) g .0) in
+                  let (spans, j, w) = map-ok records (recordsAt s n (next .at)) i in
+                  let (_, _, many, _) = records-sound s n (next .at) spans p bytes-are j in
+                  let place : 0 + 61 ≡ next .at = sym (ends .0) in
+                  let y = parts-stand (whole s) g .body in
+                  subst (λ (q : ℕ). StandStrictly s q n) place
+                  (stands-strictly (b′ .content) y (g .holds) spans (ap (λ (x : Accepted). x .content) is ∙ sym w) many)

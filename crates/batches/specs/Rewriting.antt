@@ -1,0 +1,163 @@
+-- The laws of the writer and of the canonical check, each in words and then as a statement. What proves each stands in
+-- proofs/ under the statement's name in small letters: `written : Written`. That what is written reads back stands with
+-- demand 3's statements, in Demand3.antt.
+use Prim.Native.Nat.{ℕ, _<_, _≤_}
+use mathlib.Core.Path.{_≡_}
+use mathlib.Core.Bool.{Bool, true}
+use mathlib.Core.Logic.{_⊎_}
+use mathlib.Core.List.{List, _++_}
+use lib.IntN.{ℤ, pos}
+use lib.ListN.{length, take, drop, getD}
+use Rattle.primitives.specs.Bytes.{Bytes}
+use Rattle.primitives.specs.Exactly.{Exactly}
+use Rattle.primitives.specs.Step.{ok}
+use Rattle.primitives.specs.Format.{InBits}
+use Rattle.records.specs.Format.{Record}
+use Rattle.records.specs.Judgement.{RecordSpans}
+use Rattle.records.specs.Rows.{Tables}
+use Rattle.writing.specs.declared.WriteFault.{WriteFault}
+use Rattle.writing.specs.declared.Written.{Written as WrittenAnswer}
+use Rattle.writing.specs.Asked.{RowPlace}
+use Rattle.writing.specs.Answers.{given, viewWritten}
+use Rattle.writing.specs.Promises.{WriteOutcome}
+use Rattle.batches.specs.declared.RecordBatch.{RecordBatch}
+use Rattle.batches.specs.declared.ControlBatchOrRecords.{ControlBatchOrRecords}
+use Rattle.batches.specs.declared.BatchRead.{BatchRead}
+use Rattle.batches.specs.Table.{table}
+use Rattle.batches.specs.Batch.{Fields, Marker, Content, Batch}
+use Rattle.batches.specs.Format.{BatchBytes}
+use Rattle.batches.specs.Placed.{shownContent}
+use Rattle.batches.specs.Answers.{viewFields}
+use Rattle.batches.specs.Writer.{marker, viewWanted, contentAsked, batchGiven}
+use Rattle.batches.specs.Promises.{ReadOutcome, ReadPromise, MeasurePromise, WritePromise, Canonical, CanonicalPromise}
+
+-- ---- numbers are of their width
+
+-- Of a value of the machine's types this is so: each field is an integer of its bytes, each number of a table one of 64
+-- bits, each element of the source a byte.
+pub record InWidth (x : Fields) : Type 0 where
+  pub baseOffset : InBits 64 (x .baseOffset)
+  pub partitionLeaderEpoch : InBits 32 (x .partitionLeaderEpoch)
+  pub lastOffsetDelta : InBits 32 (x .lastOffsetDelta)
+  pub firstTimestamp : InBits 64 (x .firstTimestamp)
+  pub maxTimestamp : InBits 64 (x .maxTimestamp)
+  pub producerId : InBits 64 (x .producerId)
+  pub producerEpoch : InBits 16 (x .producerEpoch)
+  pub baseSequence : InBits 32 (x .baseSequence)
+
+abbrev pub Numbers64 : List ℤ → Type 0
+Numbers64 t = (i : ℕ) → InBits 64 (getD t i (pos 0))
+
+-- ---- what is handed to the writer
+
+pub record Request : Type 0 where
+  pub batch : RecordBatch
+  pub codec : ℕ
+  pub kind : ControlBatchOrRecords
+  pub tables : Tables
+  pub source : List ℕ
+
+abbrev pub Measures : Request → WrittenAnswer → Type 0
+Measures q r = MeasurePromise (q .batch) (q .codec) (q .kind) (q .tables) (q .source) r
+
+abbrev pub Writes : Request → List ℕ → WriteOutcome → Type 0
+Writes q out o = WritePromise (q .batch) (q .codec) (q .kind) (q .tables) (q .source) out o
+
+pub record Sensible (q : Request) : Type 0 where
+  pub fields : InWidth (viewFields (q .batch))
+  pub numbers : Numbers64 (q .tables .records)
+  pub source : Bytes (q .source)
+
+-- what the rows ask for: a marker, or records whose spans lie in the source
+pub record Asks (q : Request) (c : Content RecordSpans) : Type 0 where
+  pub place : RowPlace
+  pub is : contentAsked (viewWanted (q .kind)) (q .tables) (q .source) ≡ ok c place
+
+-- and the batch that these show
+abbrev pub batchAsked : Request → Content RecordSpans → Batch Record
+batchAsked q c = record { fields = viewFields (q .batch); content = shownContent (q .source) c }
+
+-- ---- what is written
+
+-- Where the writer accepts, the output begins with as many bytes as it says, and all else in it is as it was. They are an
+-- encoding, by the strict grammar, of exactly the fields, the kind and the shown records that were asked for: every
+-- number in its shortest bytes, attribute bits above 5 and record attributes 0.
+pub record WrittenAs (q : Request) (out : List ℕ) (o : WriteOutcome) (n : ℕ) : Type 0 where
+  pub bytes : List ℕ
+  pub length-is : length bytes ≡ n
+  pub output-is : o .output ≡ bytes ++ drop n out
+  pub content : Content RecordSpans
+  pub asked : Asks q content
+  pub encodes : BatchBytes true bytes (batchAsked q content)
+
+abbrev pub Written : Type 0
+Written =
+    (q : Request) (out : List ℕ) (o : WriteOutcome) (n : ℕ) → Sensible q → Writes q out o → o .result ≡ WrittenAnswer.Bytes n
+    → WrittenAs q out o n
+
+-- Document 01: a refusal changes none of the output, and returns length 0.
+abbrev pub WriteUntouched : Type 0
+WriteUntouched =
+    (q : Request) (out : List ℕ) (o : WriteOutcome) → Writes q out o → (viewWritten (o .result) .number ≡ 0 → ⊥)
+    → (o .output ≡ out) × (viewWritten (o .result) .bytes ≡ 0)
+
+-- Writing is measuring and then 24: the answer is the measure's, unless that is a length that the output does not have.
+abbrev pub WriteMeasures : Type 0
+WriteMeasures =
+    (q : Request) (out : List ℕ) (o : WriteOutcome) (r : WrittenAnswer) → Writes q out o → Measures q r
+    → (o .result ≡ r)
+    ⊎ ((o .result ≡ WrittenAnswer.Refused WriteFault.ShortOutput) × ((n : ℕ) × (r ≡ WrittenAnswer.Bytes n) × (length out < n)))
+
+-- Document 01: a marker ignores both tables. So it does the source.
+abbrev pub MarkerAlone : Type 0
+MarkerAlone =
+    (x : Fields) (codec : ℕ) (m : Marker) (t t′ : Tables) (s s′ : List ℕ)
+    → batchGiven x codec (marker m) t s ≡ batchGiven x codec (marker m) t′ s′
+
+-- ---- reading and writing again
+
+-- Every batch that is accepted is accepted by the writer from its own rows, as they stand in the tables after reading,
+-- with its own bytes as the source, in no more bytes than it had.
+abbrev pub Rewritable : Type 0
+Rewritable =
+    (s : List ℕ) (t : Tables) (o : ReadOutcome) (b : RecordBatch) (kind : ControlBatchOrRecords) (headers consumed : ℕ) (r : WrittenAnswer)
+    → Bytes s → ReadPromise s t o → o .result ≡ BatchRead.Accepted b kind headers consumed
+    → Measures (record { batch = b; codec = 0; kind = kind; tables = o .tables; source = s }) r
+    → (n : ℕ) × (r ≡ WrittenAnswer.Bytes n) × (n ≤ consumed)
+
+-- The canonical bytes are exactly the strict grammar's.
+abbrev pub CanonicalStrict : Type 0
+CanonicalStrict = (s : List ℕ) → Bytes s → Exactly (Canonical s) ((b : Batch Record) × BatchBytes true s b)
+
+-- What the writer gives is canonical.
+abbrev pub WrittenCanonical : Type 0
+WrittenCanonical =
+    (q : Request) (out : List ℕ) (o : WriteOutcome) (n : ℕ) (r : Bool) → Sensible q → Writes q out o
+    → o .result ≡ WrittenAnswer.Bytes n → CanonicalPromise (take n (o .output)) r → r ≡ true
+
+-- A canonical batch that is read and written again is itself.
+abbrev pub CanonicalAgain : Type 0
+CanonicalAgain =
+    (s : List ℕ) (t : Tables) (o : ReadOutcome) (b : RecordBatch) (kind : ControlBatchOrRecords) (headers consumed : ℕ)
+    (out : List ℕ) (w : WriteOutcome) → Bytes s → CanonicalPromise s true → ReadPromise s t o
+    → o .result ≡ BatchRead.Accepted b kind headers consumed → length s ≤ length out
+    → Writes (record { batch = b; codec = 0; kind = kind; tables = o .tables; source = s }) out w
+    → (w .result ≡ WrittenAnswer.Bytes (length s)) × (w .output ≡ s ++ drop (length s) out)
+
+-- ---- one batch, one writing
+
+-- Two different batches never give the same bytes.
+abbrev pub WrittenApart : Type 0
+WrittenApart =
+    (q q′ : Request) (c c′ : Content RecordSpans) (bs : List ℕ) → Sensible q → Sensible q′ → Asks q c → Asks q′ c′
+    → batchGiven (viewFields (q .batch)) (q .codec) (viewWanted (q .kind)) (q .tables) (q .source) ≡ given bs
+    → batchGiven (viewFields (q′ .batch)) (q′ .codec) (viewWanted (q′ .kind)) (q′ .tables) (q′ .source) ≡ given bs
+    → batchAsked q c ≡ batchAsked q′ c′
+
+-- Of all encodings of a batch the writer's is the shortest, and it is the only one of the strict grammar.
+abbrev pub WrittenShortest : Type 0
+WrittenShortest =
+    (strict : Bool) (bs bs′ : List ℕ) (b : Batch Record) → BatchBytes true bs b → BatchBytes strict bs′ b → length bs ≤ length bs′
+
+abbrev pub WrittenOnly : Type 0
+WrittenOnly = (bs bs′ : List ℕ) (b : Batch Record) → BatchBytes true bs b → BatchBytes true bs′ b → bs ≡ bs′

@@ -1,0 +1,107 @@
+-- What the writer gives: document 01, Fixed fields, and Writer's numbers. The bytes of a batch are those of the strict
+-- grammar, with batchLength and checksum worked out.
+use Prim.Native.Nat.{ℕ, _+_, _*_}
+use mathlib.Core.Bool.{true}
+use mathlib.Core.List.{List, [], _++_}
+use lib.Dec.{eqb, leb}
+use lib.IntN.{ℤ, pos}
+use lib.ListN.{length, replicate}
+use Rattle.primitives.specs.Pick.{pick}
+use Rattle.primitives.specs.Step.{Step, ok, no, mapStep}
+use Rattle.primitives.specs.Format.{bigEndian, complement}
+use Rattle.crc32c.specs.Crc.{crc32c}
+use Rattle.records.specs.Format.{Record}
+use Rattle.records.specs.Written.{writtenRecords}
+use Rattle.records.specs.Judgement.{RecordSpans}
+use Rattle.records.specs.Rows.{Tables, tables, headersIn, withRows}
+use Rattle.writing.specs.Asked.{RowPlace, rowPlace, recordsAsked}
+use Rattle.writing.specs.Answers.{Given, given, refused}
+use Rattle.batches.specs.declared.ControlBatchOrRecords.{ControlBatchOrRecords}
+use Rattle.batches.specs.Table.{FixedFields, table, unchecked, uncountedFields, uncheckedFields, checkedFields}
+use Rattle.batches.specs.Batch.{Fields, Marker, Content, control, records, Batch}
+use Rattle.batches.specs.Format.{concat, attributesOf, howMany, markerType}
+use Rattle.batches.specs.Placed.{shownContent}
+use Rattle.batches.specs.Answers.{viewMarker}
+
+-- ---- the bytes of a batch
+
+abbrev pub signed : ℕ → ℤ → List ℕ
+signed n z = bigEndian n (complement (8 * n) z)
+
+-- Exception, as in the Rust: a marker's version and type stand alone.
+unfoldable pub writtenContent : Content Record → List ℕ
+writtenContent (control m) = bigEndian 2 0 ++ bigEndian 2 (markerType m)
+writtenContent (records rs) = writtenRecords rs
+
+-- the fixed fields, around a batchLength and a checksum
+abbrev pub writtenFixed : Batch Record → ℕ → ℕ → FixedFields (List ℕ)
+writtenFixed b batchLength crc =
+    record {
+      baseOffset = signed (table .baseOffset .bytes) (b .fields .baseOffset);
+      batchLength = bigEndian (table .batchLength .bytes) batchLength;
+      partitionLeaderEpoch = signed (table .partitionLeaderEpoch .bytes) (b .fields .partitionLeaderEpoch);
+      magic = bigEndian (table .magic .bytes) 2;
+      crc = bigEndian (table .crc .bytes) crc;
+      attributes = bigEndian (table .attributes .bytes) (attributesOf true 0 b);
+      lastOffsetDelta = signed (table .lastOffsetDelta .bytes) (b .fields .lastOffsetDelta);
+      firstTimestamp = signed (table .firstTimestamp .bytes) (b .fields .firstTimestamp);
+      maxTimestamp = signed (table .maxTimestamp .bytes) (b .fields .maxTimestamp);
+      producerId = signed (table .producerId .bytes) (b .fields .producerId);
+      producerEpoch = signed (table .producerEpoch .bytes) (b .fields .producerEpoch);
+      baseSequence = signed (table .baseSequence .bytes) (b .fields .baseSequence);
+      count = bigEndian (table .count .bytes) (howMany (b .content));
+    }
+
+-- what the checksum is over, which holds neither of the two
+unfoldable pub checkedBytes : Batch Record → List ℕ
+checkedBytes b = concat (checkedFields (writtenFixed b 0 0)) ++ writtenContent (b .content)
+
+-- document 01, Fixed fields: all bytes after it
+unfoldable pub batchLengthOf : Batch Record → ℕ
+batchLengthOf b = unchecked + length (checkedBytes b)
+
+unfoldable pub writtenBatch : Batch Record → List ℕ
+writtenBatch b =
+    let fixed : FixedFields (List ℕ) = writtenFixed b (batchLengthOf b) (crc32c (checkedBytes b)) in
+    concat (uncountedFields fixed) ++ (concat (uncheckedFields fixed) ++ checkedBytes b)
+
+-- ---- what is asked for
+
+-- the kind that is handed in: a marker, or a number of records
+pub data Wanted : Type 0 where
+  marker : Marker → Wanted
+  rows : ℕ → Wanted
+
+abbrev pub viewWanted : ControlBatchOrRecords → Wanted
+viewWanted (ControlBatchOrRecords.ControlBatch m) = marker (viewMarker m)
+viewWanted (ControlBatchOrRecords.Records n) = rows n
+
+-- a marker ignores both tables
+abbrev pub contentAsked : Wanted → Tables → List ℕ → Step RowPlace (Content RecordSpans)
+contentAsked (marker m) t s = ok (control m) (rowPlace 0 0)
+contentAsked (rows n) t s = mapStep records (recordsAsked t s 0 n)
+
+-- document 01, Writer's numbers, 23
+abbrev pub mostLength : ℕ
+mostLength = 2147483647
+
+abbrev pub batchGivenBy : Fields → List ℕ → Step RowPlace (Content RecordSpans) → Given
+batchGivenBy x s (ok c p) =
+    let b : Batch Record = record { fields = x; content = shownContent s c } in
+    pick (leb (batchLengthOf b) mostLength) (given (writtenBatch b)) (refused 23)
+batchGivenBy x s (no n) = refused n
+
+-- document 01, Writer's numbers, in their order; 24 is the output's
+unfoldable pub batchGiven : Fields → ℕ → Wanted → Tables → List ℕ → Given
+batchGiven x codec wanted t s = pick (eqb codec 0) (batchGivenBy x s (contentAsked wanted t s)) (refused 20)
+
+-- ---- a batch asked for as it was read
+
+-- tables of just the rows of what was read, and what asks for all of them
+abbrev pub ownTables : Content RecordSpans → Tables
+ownTables (control m) = tables [] []
+ownTables (records rs) = withRows 0 rs (tables (replicate (8 * length rs) (pos 0)) (replicate (4 * headersIn rs) (pos 0)))
+
+abbrev pub wantedOf : Content RecordSpans → Wanted
+wantedOf (control m) = marker m
+wantedOf (records rs) = rows (length rs)
