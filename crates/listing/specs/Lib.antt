@@ -1,0 +1,6 @@
+pub mod Text
+pub mod Listing
+pub mod Answers
+pub mod Promises
+pub mod Writing
+pub mod Statements
