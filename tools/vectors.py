@@ -1,9 +1,12 @@
 #!/usr/bin/env python3
-"""Writes the cases of crates/vectors: python3 tools/vectors.py > crates/vectors/stdin
+"""Writes the cases of an example program, crates/vectors or crates/batch_vectors:
+
+    tools/vectors.py vectors > crates/vectors/stdin
 
 Every expectation is worked out here, by Python's arithmetic, from the sentences and tables of document 01, from RFC
 3720's polynomial and from RFC 3629's rows. Nothing of the code under test is used."""
 from itertools import islice
+import sys
 import zlib
 
 ABOUT = """\
@@ -19,6 +22,8 @@ ABOUT = """\
 # span, nullspan                 HEX NUMBER [START LEN END]: bytes after their length; null is START 0, LEN -1
 # KIND@K                         reads at place K
 # put KIND VALUE HEX             writing VALUE as KIND gives the bytes HEX
+# copy HEX ROOM AT COUNT END     putting the bytes HEX into an output of ROOM bytes, from place AT on, puts COUNT of
+#                                them there, changes nothing else and gives the place END after them
 # crc32c HEX SUM                 the checksum of the bytes HEX is SUM, of all at once and of two parts, whatever the cut
 # crc32c-run LENGTH SEED SUM     the same for LENGTH bytes: x, at first SEED, becomes (25173 x + 13849) modulo 65536 for
 #                                each byte, which is x / 256
@@ -31,20 +36,46 @@ ABOUT = """\
 #                                is 0, the numbers of all record rows follow, and those of all header rows; all other
 #                                numbers of both tables stay as they are. The check without tables answers the same,
 #                                and 0 in place of 14. records@K reads at place K
-# batch HEX R H NUMBER [..]      reading a batch at the start of the bytes HEX into such tables answers NUMBER. After 0
-#                                follow base offset, leader epoch, last offset delta, first and max timestamp, producer
-#                                id, producer epoch, base sequence, timestamp type (0 create, 1 log append),
-#                                transactional (0, 1), kind (0 records, 1 abort, 2 commit), the counts of records and
-#                                headers, the bytes consumed, and |ROWS|ROWS; after 1 the bytes needed; after 14 the
-#                                records and headers needed, and | with what the check answers. Else the check answers
-#                                the same, and all other numbers of both tables always stay as they are
-# cuts@K HEX R H NUMBER [..]     the same for each start of HEX with K bytes or more. A shorter one needs 12 bytes or,
+#
+# HEX is capital digits, two to a byte, or - for no bytes."""
+ABOUT_BATCHES = """\
+# Cases for crates/batch_vectors, written by tools/vectors.py. The expectations come from the sentences and tables of
+# document 01, by Python's arithmetic, and not from the code under test.
+#
+# = NAME                         the cases that follow, up to the next such line, are the group NAME
+# batch HEX R H NUMBER [..]      reading a batch at the start of the bytes HEX into tables of R and of H numbers answers
+#                                document 01's NUMBER. After 0 (accepted) follow the fields: base offset, leader epoch,
+#                                last offset delta, first and max timestamp, producer id, producer epoch, base sequence,
+#                                timestamp type (0 create, 1 log append) and transactional (0, 1); then the kind (0
+#                                records, 1 abort, 2 commit), the counts of records and headers, the bytes consumed, and
+#                                |ROWS|ROWS, the numbers of all record rows and of all header rows. After 1 follow the
+#                                bytes needed; after 14 the records and headers needed, and | with what the check
+#                                answers. Else the check answers the same, and all other numbers of both tables always
+#                                stay as they are
+# cuts HEX K R H NUMBER [..]     the same for each start of HEX with K bytes or more. A shorter one needs 12 bytes or,
 #                                where it has them, 17 or, where it has them, K
 # time FIRST DELTA [TIME]        a record's time, or none, after that first timestamp, whichever the timestamp type
 # total LENGTH TOTAL             a batch with that batchLength is TOTAL bytes
+# write SOURCE BYTES CODEC KIND COUNT FIELDS NUMBER|ROWS|ROWS
+#                                writing a batch of that kind, and of COUNT records (-1 stands for 2^64 - 1), with the
+#                                ten fields, from both tables and the source, is answered by document 01's NUMBER.
+#                                Where that is 0, the output begins with BYTES; they are canonical, are read, and are
+#                                written again from what was read. The output has each length from 0 to 100 more than
+#                                those bytes: a shorter one is answered by 24, and all its other bytes always stay as
+#                                they are. Measuring answers the same, but for 24
+# write-records SOURCE BYTES FIRST COUNT AT NUMBER|ROWS|ROWS
+#                                the same of COUNT records alone, with header rows from row FIRST on, whose bytes begin
+#                                at place AT of the output. Where NUMBER is 0, BYTES are canonical records. -1 stands
+#                                for 2^64 - 1
+# large RECORDS HEADERS KEY VALUE NUMBER SIZE
+#                                measuring a batch of so many records, whose source is 262,144 bytes 80, answers NUMBER
+#                                and SIZE; writing it into 100 bytes answers NUMBER, or 24 in place of 0. All records
+#                                but the last show all of the source as key and as value. The last has as many headers
+#                                as HEADERS says, with an empty key and all of the source as value; but the last of them
+#                                shows KEY and VALUE bytes of it. The tables have 8,192 and 16,384 rows
+# canonical HEX K                the first K bytes of HEX are canonical, and no other start of HEX is; none where K is 0
 #
-# HEX is capital digits, two to a byte, or - for no bytes. Empty lines are no cases: they fill the text up to where the
-# program reads the next part of it."""
+# HEX, SOURCE and BYTES are capital digits, two to a byte, or - for no bytes."""
 
 # Document 01, the rows of "Numbers of varying length": bytes and value, at both widths.
 ROWS = [
@@ -122,6 +153,8 @@ ASCII_AROUND = 17
 # Document 01, "Reader's numbers".
 (ACCEPTED, MORE_BYTES, LENGTH_TOO_SMALL, UNKNOWN_MAGIC, CHECKSUM_DIFFERS, UNKNOWN_CODEC, COMPRESSED, WRONG_COUNT,
  PAST_END, BEYOND_LIMITS, NEGATIVE_LENGTH, NOT_UTF8, UNKNOWN_CONTROL, BYTES_LEFT, NO_ROOM) = range(15)
+# Document 01, "Writer's numbers".
+WRONG_CODEC, WRONG_ROW, WRONG_KEY, TOO_LONG, SHORT_OUTPUT = range(20, 25)
 GREATEST_PLACE = 2 ** 64 - 1
 GREATEST_LENGTH = 2 ** 31 - 1
 
@@ -148,8 +181,8 @@ BAD_KEYS = [
     "80", "BF", "41C3A9A9", "FF",
 ]
 
-# How many bytes the program reads at a time.
-PART = 65536
+# A text has fewer bytes than this.
+MOST_TEXT = 262144
 
 # Document 01, "Fixed fields": place, bytes and field, and what it has here where a case says nothing else.
 FIXED = [
@@ -172,6 +205,14 @@ RECORD_FAULTS = [
     ("0C000000010101", NEGATIVE_LENGTH), ("12000000010102028000", NOT_UTF8), ("12000000010102028001", NOT_UTF8),
     ("12000000010102024101", NEGATIVE_LENGTH), ("0E00000001010000", BYTES_LEFT), ("0C00000001010000", BYTES_LEFT),
 ]
+# What the program's large batches show, and how many rows of each table there are.
+LARGE_SOURCE, LARGE_ROWS = 262144, (8192, 16384)
+# Kinds, in the order of their numbers.
+RECORDS_KIND, ABORT_KIND, COMMIT_KIND = range(3)
+# A source, and a row that shows it: key "source", value "of bytes"; and a header row: key "source", value "bytes".
+SOURCE = b"source of bytes"
+ROW = dict(timestamp=0, offset=0, key=(0, 6), value=(7, 8), headers=(0, 0))
+HEADER_ROW = dict(key=(0, 6), value=(10, 5))
 # Stands for nothing in the program's answers.
 UNNAMED = 3000000
 
@@ -207,8 +248,8 @@ def limits(width):
 class Text:
     """The lines of the file, group by group. A case that stands in its group already is left out."""
 
-    def __init__(self):
-        self.groups = [[ABOUT]]
+    def __init__(self, about):
+        self.groups = [[about]]
 
     def heading(self, name):
         self.groups.append(["= " + name])
@@ -218,15 +259,9 @@ class Text:
         if line not in self.groups[-1]:
             self.groups[-1].append(line)
 
-    def parts(self):
-        """The whole. A group stands in one part, and empty lines fill up each part but the last."""
-        whole = ""
-        for lines in self.groups:
-            group = "\n".join(lines) + "\n"
-            if len(whole) % PART + len(group) > PART:
-                whole += "\n" * (-len(whole) % PART)
-            whole += group
-        assert len(whole) < 2 * PART
+    def whole(self):
+        whole = "".join(line + "\n" for lines in self.groups for line in lines)
+        assert len(whole) < MOST_TEXT
         return whole
 
 
@@ -361,6 +396,16 @@ def lengths_and_spans(text):
     for kind in lengths + spans:
         for place in (1, 2, GREATEST_PLACE):
             text.case("%s@%d" % (kind, place), varying(0), PAST_END)
+
+
+def bytes_put(text):
+    """Bytes that have room, and as many as have; from places before, at and after the output's end."""
+    text.heading("bytes put")
+    for data in (b"", b"\xa0", bytes(range(0xa0, 0xa8))):
+        for room in (0, 1, 7, 8, 9, 16, 40):
+            for at in (0, 1, 2, 7, 8, 9, 15, 16, 39, 40, 41, 2 ** 63, GREATEST_PLACE):
+                end = min(at + len(data), room)
+                text.case("copy", data, room, at, max(end - at, 0), end)
 
 
 def reversed_bits(n, width):
@@ -841,7 +886,7 @@ def batch(text, expected, data, room=ROOM, start=None):
         needed = next(n for n in (UNCOUNTED, BEFORE_CRC, start) if end < n)
         assert batch_answer(data[:end], room)[0] == (MORE_BYTES, needed)
     assert UNNAMED not in read + check
-    words = ["cuts@%d" % start if start else "batch", data, *room, *read]
+    words = [*(("cuts", data, start) if start else ("batch", data)), *room, *read]
     text.case(*behind_bars(words, [check] if expected == NO_ROOM else table_numbers(tables)))
 
 
@@ -1172,8 +1217,546 @@ def batch_sizes(text):
         text.case("total", length, UNCOUNTED + length)
 
 
-def main():
-    text = Text()
+def shown(source, start, size, least):
+    """The bytes that a row names, or none."""
+    if (start, size) == (0, -1) and least == -1:
+        return None
+    if start < 0 or size < 0 or start + size > len(source):
+        raise Refused(WRONG_ROW)
+    return source[start:start + size]
+
+
+def nullable(data):
+    return varying(-1) if data is None else varying(len(data)) + data
+
+
+def whole_rows(numbers, width):
+    return [numbers[width * i:width * (i + 1)] for i in range(len(numbers) // width)]
+
+
+def written_header(source, row):
+    key, value = shown(source, *row[:2], 0), shown(source, *row[2:], 0)
+    if not by_rows(key):
+        raise Refused(WRONG_KEY)
+    return pair(key, value)
+
+
+def written_records(source, count, records, headers, first=0):
+    """The bytes of each record, by the numbers of both tables; in the order of document 01, "Writer's numbers"."""
+    rows, header_rows = whole_rows(records, 8), whole_rows(headers, 4)
+    if count > len(rows):
+        raise Refused(WRONG_ROW)
+    written = []
+    for timestamp, offset, *spans, named, header_count in rows[:count]:
+        key, value = shown(source, *spans[:2], -1), shown(source, *spans[2:], -1)
+        if not -2 ** 31 <= offset < 2 ** 31 or named != first or not 0 <= header_count <= len(header_rows) - first:
+            raise Refused(WRONG_ROW)
+        after = first + header_count
+        pairs = [written_header(source, row) for row in header_rows[first:after]]
+        numbers = b"\0" + varying(timestamp) + varying(offset)
+        body = numbers + nullable(key) + nullable(value) + varying(len(pairs)) + b"".join(pairs)
+        written.append(varying(len(body)) + body)
+        first = after
+    return written
+
+
+def written_batch(source, kind, count, records, headers, fields):
+    """The fields are in the order of an answer, with the timestamp type and the transactional flag behind them."""
+    *values, log_append, transactional = fields
+    values = dict(zip((name for _, name in FIELDS), values))
+    attributes = log_append * LOG_APPEND + transactional * TRANSACTIONAL
+    if kind:
+        return marker((ABORT, COMMIT)[kind - 1], attributes + CONTROL, **values)
+    return of_records(*written_records(source, count, records, headers), attributes=attributes, **values)
+
+
+def is_canonical(data):
+    """Whether all the bytes are a batch, and what is written for it."""
+    try:
+        (*fields, kind, count, _, whole), tables = batch_parts(data)
+    except Refused:
+        return False
+    return whole == len(data) and written_batch(data, kind, count, *table_numbers(tables), fields) == data
+
+
+def contents(source, records, headers):
+    """What rows show: deltas, bytes and nulls, and how many headers."""
+    rows, header_rows = whole_rows(records, 8), whole_rows(headers, 4)
+    return [
+        [(row[:2], shown(source, *row[2:4], -1), shown(source, *row[4:6], -1), row[7]) for row in rows],
+        [(shown(source, *row[:2], 0), shown(source, *row[2:], 0)) for row in header_rows],
+    ]
+
+
+def write(text, expected, rows=(), header_rows=(), count=None, source=SOURCE, codec=0, kind=RECORDS_KIND, more=((), ()),
+          fields=(1, 2, 3, 4, 5, 6, 7, 8, 0, 0)):
+    """A case whose number is expected by whoever puts it here. Numbers may follow the rows of both tables."""
+    count = len(rows) if count is None else count
+    records = [n for row in rows for n in row] + list(more[0])
+    headers = [n for row in header_rows for n in row] + list(more[1])
+    found, data = ACCEPTED, b""
+    try:
+        if codec:
+            raise Refused(WRONG_CODEC)
+        data = written_batch(source, kind, count, records, headers, fields)
+        told, tables = batch_parts(data)
+        used = (0, 0) if kind else (8 * count, 4 * sum(row[7] for row in whole_rows(records, 8)[:count]))
+        assert told[:11] == (*fields, kind) and told[13] == len(data) and is_canonical(data)
+        assert contents(data, *table_numbers(tables)) == contents(source, records[:used[0]], headers[:used[1]])
+    except Refused as refused:
+        found, = refused.args
+    assert found == expected, (rows, header_rows, found, expected)
+    words = ["write", source, data, codec, kind, counted(count), *fields, found]
+    text.case(*behind_bars(words, [records, headers]))
+
+
+def counted(n):
+    """A number of the machine's, which a text names by a signed one."""
+    return -1 if n == GREATEST_PLACE else n
+
+
+def write_records(text, expected, rows=(), header_rows=(), first=0, count=None, at=0, source=SOURCE):
+    """The same of records alone."""
+    count = len(rows) if count is None else count
+    tables = [[n for row in table for n in row] for table in (rows, header_rows)]
+    found, data = ACCEPTED, b""
+    try:
+        data = b"".join(written_records(source, count, *tables, first))
+    except Refused as refused:
+        found, = refused.args
+    assert found == expected, (rows, header_rows, found, expected)
+    words = ["write-records", source, data, counted(first), counted(count), counted(at), found]
+    text.case(*behind_bars(words, tables))
+
+
+def row(**others):
+    parts = {**ROW, **others}
+    return [parts["timestamp"], parts["offset"], *parts["key"], *parts["value"], *parts["headers"]]
+
+
+def header_row(**others):
+    parts = {**HEADER_ROW, **others}
+    return [*parts["key"], *parts["value"]]
+
+
+def written_examples(text):
+    """The batches that document 01 describes."""
+    text.heading("written, examples")
+    zeros = (0,) * 10
+    write(text, ACCEPTED, source=b"", fields=zeros)
+    null = (0, -1)
+    write(text, ACCEPTED, [row(key=null, value=(0, 1))], source=b"A", fields=(7, *zeros[1:]))
+    for digits, numbers in RECORD_ROWS:
+        assert written_records(bytes.fromhex(digits), 1, list(numbers), []) == [bytes.fromhex(digits)]
+        write(text, ACCEPTED, [numbers], source=bytes.fromhex(digits))
+    for key in (null, (0, 0), (0, 6)):
+        for value in (null, (15, 0), (7, 8)):
+            write(text, ACCEPTED, [row(key=key, value=value)])
+    for kind in (ABORT_KIND, COMMIT_KIND):
+        write(text, ACCEPTED, kind=kind, source=b"", fields=zeros)
+
+
+def written_fields(text):
+    """Bytes that all differ, extremes and signs, of each field alone and of all; and the flags, of each kind."""
+    text.heading("written, fields")
+
+    def fields(values, flags=(0, 0)):
+        write(text, ACCEPTED, [row()], fields=(*values, *flags))
+
+    for rank, (size, _) in enumerate(FIELDS):
+        for n in (different(size, 1), -different(size, 0x71), -2 ** (8 * size - 1), 2 ** (8 * size - 1) - 1):
+            fields([n if rank == other else 0 for other in range(len(FIELDS))])
+    for sign in (1, -1):
+        fields([sign * different(size, 1 + 8 * rank) for rank, (size, _) in enumerate(FIELDS)])
+    fields([-1 for _ in FIELDS], (1, 1))
+    for log_append in (0, 1):
+        for transactional in (0, 1):
+            for kind in (RECORDS_KIND, ABORT_KIND, COMMIT_KIND):
+                write(text, ACCEPTED, kind=kind, fields=(1, 2, 3, 4, 5, 6, 7, 8, log_append, transactional))
+
+
+def written_codec(text):
+    """Judged before all else."""
+    text.heading("written, codec")
+    nonsense = [[-3] * 8], [[-5] * 4]
+    for codec in (1, 2, 3, 4, 5, 7, 8, 128, 255):
+        write(text, WRONG_CODEC, [row()], codec=codec)
+    for codec in (1, 8, 255):
+        for kind in (RECORDS_KIND, ABORT_KIND, COMMIT_KIND):
+            write(text, WRONG_CODEC, *nonsense, count=2, codec=codec, kind=kind)
+        write(text, WRONG_CODEC, codec=codec, source=b"")
+        write(text, WRONG_CODEC, codec=codec, count=GREATEST_PLACE)
+    write(text, WRONG_CODEC, [row(headers=(0, 1))], [header_row(key=(0, 1))], source=b"\xff" * 15, codec=1)
+
+
+def written_counts(text):
+    """As many records as rows and one more, with a remainder that is never a row; and rows beyond the count."""
+    text.heading("written, counts")
+    for rows in range(4):
+        for more in (0, 1, 7):
+            for count, expected in ((rows, ACCEPTED), (rows + 1, WRONG_ROW)):
+                write(text, expected, [row()] * rows, count=count, more=((0,) * more, (-9,) * (more % 4)))
+    for count in (2, 3, 255, 256, 2 ** 31 - 1, 2 ** 31, 2 ** 32, 2 ** 32 + 1, 2 ** 61, 2 ** 61 + 1, 2 ** 63 - 1,
+                  GREATEST_PLACE):
+        write(text, WRONG_ROW, [row()], count=count)
+    for count in range(3):
+        write(text, ACCEPTED, [row()] * count + [[-3] * 8], count=count)
+    write(text, ACCEPTED, [row()] * 8)
+    write(text, WRONG_ROW, [row()] * 8, count=9)
+
+
+def written_spans(text):
+    """Each place of a span: both ends of the source, nulls, and numbers that do not belong there."""
+    text.heading("written, spans")
+    size, most = len(SOURCE), 2 ** 63 - 1
+    inside = [(0, 0), (0, 1), (0, size), (1, size - 1), (size - 1, 1), (size - 1, 0), (size, 0), (4, 7)]
+    outside = [
+        (0, size + 1), (1, size), (size, 1), (size + 1, 0), (size + 1, 1), (size - 1, 2), (-1, 0), (-1, 1), (-1, 2),
+        (-1, size), (-size, size), (-2 ** 63, 0), (-2 ** 63, most), (-2 ** 31, 1), (2 ** 31, 0), (2 ** 32, 0),
+        (2 ** 32, 1), (0, 2 ** 31 - 1), (0, 2 ** 31), (0, 2 ** 32), (0, 2 ** 32 + 1), (0, most), (1, most), (2, most),
+        (most, 0), (most, 1), (most, 2), (most, size), (most, most), (2 ** 62, 2 ** 62), (most - 1, 2),
+        (0, -2), (0, -3), (0, -size), (0, -2 ** 31), (0, -2 ** 32 - 1), (0, -2 ** 63), (1, -2), (size, -2),
+        (1, -1), (size, -1), (-1, -1), (most, -1), (-2 ** 63, -1), (2 ** 32, -1), (-2 ** 63, -2 ** 63),
+    ]
+
+    def both(place, span, expected):
+        if place in ("key", "value"):
+            write(text, expected, [row(**{place: span})])
+        else:
+            write(text, expected, [row(headers=(0, 1))], [header_row(**{place.split()[1]: span})])
+
+    for place in ("key", "value", "header key", "header value"):
+        for span in inside:
+            both(place, span, ACCEPTED)
+        for span in outside:
+            both(place, span, WRONG_ROW)
+        both(place, (0, -1), ACCEPTED if place in ("key", "value") else WRONG_ROW)
+    for place in ("key", "value"):
+        for span, expected in (((0, 0), ACCEPTED), ((0, -1), ACCEPTED), ((1, 0), WRONG_ROW), ((0, 1), WRONG_ROW)):
+            write(text, expected, [row(**{"key": (0, 0), "value": (0, 0), place: span})], source=b"")
+    whole, parts = (0, size), [(i, j - i) for i in range(4) for j in range(i, 4)]
+    write(text, ACCEPTED, [row(key=whole, value=whole, headers=(0, 2))], [header_row(key=whole, value=whole)] * 2)
+    for key, value in zip(parts, reversed(parts)):
+        write(text, ACCEPTED, [row(key=key, value=value, headers=(0, 1))], [header_row(key=value, value=key)])
+
+
+def written_numbers(text):
+    """Deltas: each length of a number, and both ends of 32 bits. Lengths on both sides of a longer number."""
+    text.heading("written, numbers")
+    nulls = dict(key=(0, -1), value=(0, -1))
+    for n in limits(64):
+        write_records(text, ACCEPTED, [row(timestamp=n, **nulls)], source=b"")
+    for n in limits(32):
+        write_records(text, ACCEPTED, [row(offset=n, **nulls)], source=b"")
+    for n in (-2 ** 63, -2 ** 32, -2 ** 31, -65, -64, -1, 0, 63, 64, 2 ** 31 - 1, 2 ** 32, 2 ** 63 - 1):
+        for m in (-2 ** 31, -1, 0, 2 ** 31 - 1):
+            write_records(text, ACCEPTED, [row(timestamp=n, offset=m)])
+    for n, m in ((-2 ** 63, 2 ** 31 - 1), (2 ** 63 - 1, -2 ** 31), (-1, -1), (2 ** 31, 63), (-2 ** 31 - 1, -64)):
+        write(text, ACCEPTED, [row(timestamp=n, offset=m)])
+        write(text, ACCEPTED, [row(timestamp=m, offset=m), row(timestamp=n, offset=m)])
+    for n in (2 ** 31, 2 ** 31 + 1, 2 ** 32 - 1, 2 ** 32, 2 ** 32 + 1, 2 ** 62, 2 ** 63 - 1, -2 ** 31 - 1, -2 ** 31 - 2,
+              -2 ** 32 + 1, -2 ** 32, -2 ** 32 - 1, -2 ** 62, -2 ** 63):
+        write(text, WRONG_ROW, [row(offset=n)])
+        write(text, WRONG_ROW, [row(), row(offset=n)])
+    source = bytes(range(0x20, 0x50)) * 3
+    for n in (63, 64, 128):
+        for place in ("key", "value"):
+            write(text, ACCEPTED, [row(**{**nulls, place: (1, n)})], source=source)
+            write(text, ACCEPTED, [row(headers=(0, 1), **nulls)],
+                  [header_row(**{"key": (0, 0), "value": (0, 0), place: (1, n)})], source=source)
+    # the record's length
+    for n in (57, 58):
+        write(text, ACCEPTED, [row(key=(0, -1), value=(1, n))], source=source)
+
+
+def written_headers(text):
+    """First header rows and header counts: they run on, within the table."""
+    text.heading("written, headers")
+    most = 2 ** 63 - 1
+    rows = [header_row(), header_row(key=(7, 2)), header_row(key=(0, 0), value=(0, 0))]
+    for count in range(4):
+        write(text, ACCEPTED, [row(headers=(0, count))], rows)
+        write(text, ACCEPTED, [row(headers=(0, count))], rows[:count])
+        for more in (0, 1, 3):
+            write(text, WRONG_ROW, [row(headers=(0, count + 1))], rows[:count], more=((), (0,) * more))
+    for count in (-1, -2, -3, -256, -2 ** 31, -2 ** 32, -2 ** 32 + 1, -2 ** 63, 4, 2 ** 31, 2 ** 32, 2 ** 32 + 1,
+                  2 ** 61, 2 ** 62, most):
+        write(text, WRONG_ROW, [row(headers=(0, count))], rows)
+        write(text, WRONG_ROW, [row(headers=(0, 2)), row(headers=(2, count))], rows)
+    for first in (1, 2, 3, 4, -1, -2 ** 63, 2 ** 32, 2 ** 62, most):
+        for count in (0, 1, -1, -first if first > -2 ** 63 else 0):
+            write(text, WRONG_ROW, [row(headers=(first, count))], rows)
+    for first, second, expected in (
+        ((0, 0), (0, 0), ACCEPTED), ((0, 0), (0, 3), ACCEPTED), ((0, 3), (3, 0), ACCEPTED), ((0, 1), (1, 2), ACCEPTED),
+        ((0, 1), (1, 1), ACCEPTED), ((0, 0), (1, 0), WRONG_ROW), ((0, 0), (1, 1), WRONG_ROW),
+        ((0, 1), (0, 1), WRONG_ROW), ((0, 1), (2, 1), WRONG_ROW), ((0, 1), (0, 0), WRONG_ROW),
+        ((0, 1), (2, 0), WRONG_ROW), ((0, 3), (0, 0), WRONG_ROW), ((0, 3), (3, 1), WRONG_ROW),
+        ((0, 3), (4, 0), WRONG_ROW), ((0, 3), (3, -1), WRONG_ROW), ((0, 3), (2, 1), WRONG_ROW),
+        ((0, 2), (2, 2), WRONG_ROW), ((0, 2), (2, most), WRONG_ROW), ((0, 4), (4, -4), WRONG_ROW),
+    ):
+        write(text, expected, [row(headers=first), row(headers=second)], rows)
+    write(text, ACCEPTED, [row()], [[-5] * 4])
+    write(text, ACCEPTED, [row(headers=(0, 1))], [header_row(), [-5] * 4])
+
+
+def written_keys(text):
+    """A header's key is UTF-8, and nothing else has to be."""
+    text.heading("written, keys")
+    for key in map(bytes.fromhex, GOOD_KEYS):
+        write(text, ACCEPTED, [row(key=(0, 0), value=(0, 0), headers=(0, 1))],
+              [header_row(key=(1, len(key)), value=(0, 1))], source=b"\x80" + key + b"\x80")
+    for key in map(bytes.fromhex, BAD_KEYS):
+        write(text, WRONG_KEY, [row(key=(0, 0), value=(0, 0), headers=(0, 1))],
+              [header_row(key=(1, len(key)), value=(0, 1))], source=b"a" + key + b"a")
+        every = (0, len(key))
+        write(text, ACCEPTED, [row(key=every, value=every, headers=(0, 1))], [header_row(key=(0, 0), value=every)],
+              source=key)
+    euro = "\u20ac".encode()
+    for start, size, expected in ((0, 3, ACCEPTED), (0, 2, WRONG_KEY), (1, 2, WRONG_KEY), (1, 0, ACCEPTED)):
+        write(text, expected, [row(key=(0, 0), value=(0, 0), headers=(0, 1))],
+              [header_row(key=(start, size), value=(0, 0))], source=euro)
+
+
+def written_order(text):
+    """Two faults or more: rows in order, each record before its headers, a header row's numbers before its key."""
+    text.heading("written, order")
+    source = b"key\xff"
+    null, bad, past = (0, -1), (3, 1), (4, 1)
+
+    def record(headers=(0, 0), **others):
+        return row(**{"key": null, "value": null, "headers": headers, **others})
+
+    def header(key=(0, 3), value=(0, 0)):
+        return [*key, *value]
+
+    for rows, headers, expected in (
+        # a row's numbers before its key, whichever span is wrong
+        ([record((0, 1))], [header(bad, past)], WRONG_ROW), ([record((0, 1))], [header(bad, null)], WRONG_ROW),
+        ([record((0, 1))], [header(bad, (0, -2))], WRONG_ROW), ([record((0, 1))], [header(bad)], WRONG_KEY),
+        # an earlier header before a later one, and before a later record
+        ([record((0, 2))], [header(bad), header(past)], WRONG_KEY),
+        ([record((0, 2))], [header(past), header(bad)], WRONG_ROW),
+        ([record((0, 2))], [header(), header(bad)], WRONG_KEY),
+        ([record((0, 1)), record((1, 0), key=past)], [header(bad)], WRONG_KEY),
+        ([record((0, 1)), record((0, 0))], [header(bad)], WRONG_KEY),
+        ([record((0, 1)), record((1, 9))], [header(bad)], WRONG_KEY),
+        ([record((0, 1)), record((1, 0), offset=2 ** 31)], [header(bad)], WRONG_KEY),
+        ([record((0, 1)), record((1, 1))], [header(bad), header(past)], WRONG_KEY),
+        ([record((0, 1)), record((1, 1))], [header(past), header(bad)], WRONG_ROW),
+        # a record before its headers
+        ([record((0, 1), key=past)], [header(bad)], WRONG_ROW),
+        ([record((0, 1), value=past)], [header(bad)], WRONG_ROW),
+        ([record((0, 1), offset=-2 ** 31 - 1)], [header(bad)], WRONG_ROW),
+        ([record((0, 2))], [header(bad)], WRONG_ROW), ([record((1, 1))], [header(bad), header(bad)], WRONG_ROW),
+        ([record((0, 0), key=past), record((0, 1))], [header(bad)], WRONG_ROW),
+        # rows that no record has
+        ([record((0, 1))], [header(), header(bad)], ACCEPTED), ([record()], [header(past)], ACCEPTED),
+    ):
+        write(text, expected, rows, headers, source=source)
+        # too few rows are judged first
+        write(text, WRONG_ROW, rows, headers, count=len(rows) + 1, source=source)
+
+
+def written_markers(text):
+    """A marker looks at no table, no source and no count."""
+    text.heading("written, markers")
+    for kind in (ABORT_KIND, COMMIT_KIND):
+        for log_append in (0, 1):
+            for transactional in (0, 1):
+                fields = (-1, -2, -3, -4, -5, -6, -7, -8, log_append, transactional)
+                write(text, ACCEPTED, [[-3] * 8], [[-5] * 4], count=0, kind=kind, fields=fields)
+        write(text, ACCEPTED, [[2 ** 63 - 1] * 8], [[-2 ** 63] * 4], kind=kind, more=((1,) * 7, (1,) * 3))
+        write(text, ACCEPTED, [row(headers=(0, 1))], [header_row(key=(0, 1))], kind=kind, source=b"\xff" * 15)
+        for count in (1, 2, 2 ** 31, GREATEST_PLACE):
+            write(text, ACCEPTED, count=count, kind=kind, source=b"")
+
+
+def written_several(text):
+    """Records one after the other, from the tables that the reader fills for them."""
+    text.heading("written, several")
+    parts = three_records()
+    for several in (parts, parts[::-1], parts[:2], parts[1:], [parts[2]] * 4, [parts[0]] * 8, [parts[1], parts[2]] * 3):
+        data = b"".join(several)
+        rows, headers = record_tables(data, 0, len(several), 0)
+        assert b"".join(written_records(data, len(several), *table_numbers((rows, headers)))) == data
+        write(text, ACCEPTED, rows, headers, source=data)
+        write(text, WRONG_ROW, rows, headers, count=len(rows) + 1, source=data)
+        write(text, WRONG_ROW, rows, headers, source=data[:-2])
+    # what is written is not what was read: a long number, attributes
+    for others in ({"attributes": "7F"}, {"timestamp": "81808000"}, {"key_length": "8480808000"}, {"count": "8200"}):
+        data = record_of(**others)
+        write(text, ACCEPTED, *record_tables(data, 0, 1, 0), source=data)
+
+
+def written_apart(text):
+    """Records alone: places of the output, near its ends and far beyond them; and first header rows."""
+    text.heading("written, records alone")
+    for at in (0, 1, 7, 61, 99, 100, 101, 2 ** 31, 2 ** 62, 2 ** 63 - 1, GREATEST_PLACE):
+        write_records(text, ACCEPTED, at=at)
+        write_records(text, ACCEPTED, [row()], at=at)
+        write_records(text, WRONG_ROW, [row(offset=2 ** 31)], at=at)
+    headers = [header_row(key=(i, 1), value=(0, i)) for i in range(4)]
+    for first in range(6):
+        for count in range(5):
+            write_records(text, ACCEPTED if first + count <= 4 else WRONG_ROW, [row(headers=(first, count))], headers,
+                          first=first, at=3)
+        for named in {0, 1, first - 1, first + 1} - {first}:
+            write_records(text, WRONG_ROW, [row(headers=(named, 0))], headers, first=first)
+        rows = [row(headers=(first, 1)), row(headers=(first + 1, 1))]
+        write_records(text, ACCEPTED if first + 2 <= 4 else WRONG_ROW, rows, headers, first=first)
+        write_records(text, WRONG_ROW, rows, headers, first=first, count=3)
+        write_records(text, ACCEPTED, rows, headers, first=first, count=0)
+    bad = header_row(key=(0, 1))
+    for first, expected in ((0, WRONG_KEY), (1, ACCEPTED)):
+        write_records(text, expected, [row(key=(0, 1), value=(0, 0), headers=(first, 1))],
+                      [bad[:2] + [0, 0], header_row(key=(1, 1), value=(0, 1))], first=first, source=b"\xffa")
+    for first in (2 ** 31, 2 ** 62, 2 ** 63 - 1, GREATEST_PLACE):
+        for named in (0, 2 ** 31, 2 ** 62, 2 ** 63 - 1, -1):
+            write_records(text, WRONG_ROW, [row(headers=(named, 1))], headers, first=first)
+        write_records(text, ACCEPTED, first=first)
+    for count in (1, 2 ** 61, GREATEST_PLACE):
+        write_records(text, WRONG_ROW, count=count)
+
+
+def large_size(records, headers, key, value):
+    """The bytes of all records of a large case."""
+    many, most = varying(LARGE_SOURCE), LARGE_SOURCE
+    usual = 3 + 2 * (len(many) + most) + 1
+    last = 5 + len(varying(headers))
+    if headers:
+        last += (headers - 1) * (1 + len(many) + most) + len(varying(key)) + key + len(varying(value)) + value
+    return (records - 1) * (len(varying(usual)) + usual) + len(varying(last)) + last
+
+
+def large(text, expected, records, headers, key=0, value=0):
+    length = 49 + large_size(records, headers, key, value)
+    if records > LARGE_ROWS[0] or headers > LARGE_ROWS[1] or max(key, value) > LARGE_SOURCE:
+        found = WRONG_ROW
+    elif headers and key:
+        found = WRONG_KEY
+    else:
+        found = TOO_LONG if length > GREATEST_LENGTH else ACCEPTED
+    assert found == expected, (records, headers, key, value, found)
+    text.case("large", records, headers, key, value, found, 0 if found else UNCOUNTED + length)
+
+
+def written_large(text):
+    """Both sides of what batchLength holds, by many records, by many headers and by both; and far beyond it. Faults of
+    rows are met before."""
+    text.heading("written, large")
+    whole, null, empty = (0, LARGE_SOURCE), (0, -1), (0, 0)
+    records = row(key=whole, value=whole) + row(key=null, value=null, headers=(0, 2))
+    headers = header_row(key=empty, value=whole) + header_row(key=empty, value=(0, 9))
+    written = written_records(bytes(LARGE_SOURCE), 2, records, headers)
+    assert sum(map(len, written)) == large_size(2, 2, 0, 9)
+    for records, headers in ((4096, 2), (1, 8192), (2048, 4098)):
+        left = GREATEST_LENGTH - 49 - large_size(records, headers, 0, 0)
+        value = next(n for n in range(left, 0, -1) if 49 + large_size(records, headers, 0, n) == GREATEST_LENGTH)
+        large(text, ACCEPTED, records, headers, value=value - 1)
+        large(text, ACCEPTED, records, headers, value=value)
+        large(text, TOO_LONG, records, headers, value=value + 1)
+        large(text, TOO_LONG, records + 1, headers, value=value)
+        large(text, WRONG_KEY, records + 1, headers, key=1, value=value)
+        large(text, WRONG_ROW, records + 1, headers, value=LARGE_SOURCE + 1)
+        large(text, WRONG_KEY, records, headers, key=1, value=value)
+    for records, headers in ((8192, 0), (8192, 1), (8192, 16384), (1, 16384), (4096, 16384)):
+        large(text, TOO_LONG, records, headers, value=LARGE_SOURCE)
+    for records, headers in ((8193, 1), (8192, 16385), (1, 16385), (1, 2 ** 31), (2 ** 31, 1), (2 ** 32 + 1, 1)):
+        large(text, WRONG_ROW, records, headers)
+    large(text, ACCEPTED, 1, 1, value=LARGE_SOURCE)
+    large(text, WRONG_ROW, 1, 1, value=LARGE_SOURCE + 1)
+
+
+def canonical(text, data, expected=None):
+    """So many bytes are expected to be canonical by whoever puts it here; all of them where nothing is said."""
+    whole = len(data) if expected is None else expected
+    assert [end for end in range(len(data) + 1) if is_canonical(data[:end])] == ([whole] if whole else [])
+    text.case("canonical", data, whole)
+
+
+def canonical_batches(text):
+    """Batches as they are written, and all that they could be instead."""
+    text.heading("canonical, batches")
+    one = of_records(record_of())
+    for data in (batch_of(), one, marker(ABORT), marker(COMMIT), of_records(*three_records())):
+        canonical(text, data)
+        for tail in (b"\0", b"\xff", data):
+            canonical(text, data + tail, len(data))
+        for place in (17, 20, 23, len(data) - 1):
+            canonical(text, flipped(data, place), 0)
+        canonical(text, flipped(data, 16), 0)
+        for place in (3, 12):
+            canonical(text, flipped(data, place))
+    for bits in range(4):
+        canonical(text, batch_of(attributes=bits * LOG_APPEND))
+        canonical(text, marker(COMMIT, bits * LOG_APPEND + CONTROL))
+    for bit in range(6, 16):
+        canonical(text, batch_of(attributes=1 << bit), 0)
+        canonical(text, marker(ABORT, CONTROL + (1 << bit)), 0)
+        canonical(text, of_records(record_of(), attributes=TRANSACTIONAL + (1 << bit)), 0)
+    canonical(text, batch_of(attributes=0xFFC0), 0)
+    for codec in range(1, 8):
+        canonical(text, batch_of(attributes=codec), 0)
+        canonical(text, of_records(record_of(), attributes=codec), 0)
+        canonical(text, marker(ABORT, CONTROL + codec), 0)
+    for count in (-1, -2, 1, 256, -2 ** 31):
+        canonical(text, batch_of(count=count), 0)
+    for count in (-1, 0, 2, 257, 2 ** 31 - 1):
+        canonical(text, marker(count=count), 0)
+        canonical(text, of_records(record_of(), count=count), 0)
+    for body in ("0001", "00010000", "00000002", "0000000100", "000000"):
+        canonical(text, marker(bytes.fromhex(body)), 0)
+    for length in (-1, 8, 9, 48, 50):
+        canonical(text, batch_of(batch_length=length), 0)
+    for size, name in FIELDS:
+        for n in (different(size, 1), -2 ** (8 * size - 1)):
+            canonical(text, batch_of(**{name: n}))
+
+
+def canonical_records(text):
+    """Records as they are written; each number longer than needed, attributes, and faults."""
+    text.heading("canonical, records")
+    null_key, none, parts = record_of(key_length=NULL, key=""), bytes.fromhex(RECORD_ROWS[0][0]), three_records()
+    for record in (none, null_key, record_of(value_length=NULL, value=""), record_of(**NO_HEADER), *parts):
+        canonical(text, of_records(record))
+        canonical(text, of_records(record, none))
+    for timestamp, offset in ((-2 ** 63, 2 ** 31 - 1), (2 ** 63 - 1, -2 ** 31)):
+        canonical(text, of_records(record_of(timestamp=varying(timestamp).hex(), offset=varying(offset).hex())))
+
+    def never(*wrong):
+        for records in (wrong, (none, *wrong, none)):
+            canonical(text, of_records(*records), 0)
+
+    for attributes in ("01", "02", "40", "80", "FF"):
+        never(record_of(attributes=attributes))
+    body = record_of()[1:]
+    for count in (2, 5):
+        never(varying(len(body), count) + body)
+    longest = {"timestamp": 10, "offset": 5, **{part: 5 for part in LENGTHS}}
+    for part, most in longest.items():
+        n, after = number(enumerate(bytes.fromhex(PARTS[part])), 64)
+        for count in (after + 1, most):
+            never(record_of(**{part: varying(n, count).hex()}))
+    for part in ("key_length", "value_length"):
+        for n in (-1, 0):
+            for count in (2, 5):
+                never(record_of(**{part: varying(n, count).hex(), part.split("_")[0]: ""}))
+    for count in (2, 5):
+        never(record_of(**{**NO_HEADER, "count": varying(0, count).hex()}))
+        for key_count, value_count in ((count, 1), (1, count)):
+            header = varying(0, key_count) + varying(0, value_count)
+            never(with_headers(header))
+            never(with_headers(pair(b"a", b"b"), header))
+    # shorter here and longer there: as many bytes as are written for another
+    never(record_of(timestamp="8000"))
+    never(record_of(timestamp="8000", offset="8000"))
+    for fault, _ in RECORD_FAULTS:
+        canonical(text, of_records(bytes.fromhex(fault)), 0)
+    canonical(text, of_records(bytes.fromhex(RECORD_NAMES_100)), 0)
+    canonical(text, of_records(*parts, b"\0", count=3), 0)
+
+
+def vectors(text):
     document_rows(text)
     for kind in WIDTHS:
         varying_limits(text, kind)
@@ -1182,6 +1765,7 @@ def main():
     integers_read(text)
     integers_written(text)
     lengths_and_spans(text)
+    bytes_put(text)
     checksum_examples(text)
     checksum_lengths(text)
     utf8_rows(text)
@@ -1193,6 +1777,9 @@ def main():
     records_headers(text)
     records_several(text)
     records_room(text)
+
+
+def batch_vectors(text):
     batches_examples(text)
     batches_lengths(text)
     batches_cut(text)
@@ -1205,7 +1792,29 @@ def main():
     batches_followed(text)
     record_times(text)
     batch_sizes(text)
-    print(text.parts(), end="")
+    written_examples(text)
+    written_fields(text)
+    written_codec(text)
+    written_counts(text)
+    written_spans(text)
+    written_numbers(text)
+    written_headers(text)
+    written_keys(text)
+    written_order(text)
+    written_markers(text)
+    written_several(text)
+    written_apart(text)
+    written_large(text)
+    canonical_batches(text)
+    canonical_records(text)
+
+
+def main():
+    name, = sys.argv[1:]
+    about, fill = {"vectors": (ABOUT, vectors), "batch_vectors": (ABOUT_BATCHES, batch_vectors)}[name]
+    text = Text(about)
+    fill(text)
+    print(text.whole(), end="")
 
 
 main()

@@ -1,7 +1,7 @@
 // Whether bytes are UTF-8: those of a case, with ASCII around them, and all strings of one byte and of two. The
 // expectations of the latter are a second formulation, by the numbers of characters: RFC 3629, section 3, says by which
 // bytes a number is spelled.
-use crate::tally::Tally;
+use cases::tally::Tally;
 
 // How many ASCII bytes stand before the bytes of a case, and after them.
 pub const AROUND: usize = 17;

@@ -1,5 +1,5 @@
 // The checksum of bytes, taken whole and in parts.
-use crate::integer::Integer;
+use cases::integer::Integer;
 
 // Whether the checksum is the one expected, of all bytes at once and of two parts, whatever the cut.
 pub fn sums_to(s: &[u8], expected: Integer) -> bool {

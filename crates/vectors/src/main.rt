@@ -1,28 +1,26 @@
-// Runs the libraries `primitives`, `crc32c`, `utf8`, `records` and `batches` on cases whose expectations come from
-// elsewhere: those of the text on standard input, and all strings of one byte and of two. It prints a line for each group
-// of cases.
-mod batch;
-mod cases;
+// Runs the libraries `primitives`, `crc32c`, `utf8` and `records` on cases whose expectations come from elsewhere: those
+// of the text on standard input, and all strings of one byte and of two. It prints a line for each group of cases.
+mod agreement;
 mod characters;
 mod checksums;
-mod groups;
-mod integer;
 mod reading;
+mod rows;
 mod strings;
-mod tables;
-mod tally;
-mod text;
-mod times;
 mod writing;
 
+use agreement::agrees;
+use cases::groups::Groups;
+use cases::groups::Line;
+use cases::groups::ROOM;
+use cases::groups::line_end;
+use cases::groups::whole;
+use cases::tally::Tally;
 use libc::STDIN_FILENO;
-use tally::Tally;
-
-// How many buffers the text may fill.
-const PARTS: usize = 2;
 
 fn main() {
-    let read = read_parts();
+    let mut text = [0u8; ROOM];
+    let n = io::read_full(STDIN_FILENO, &mut text);
+    let read = whole(run(&text[..n]), n);
     let one = shown(strings::one_byte(), b"one byte, both widths");
     let two = shown(strings::two_bytes(), b"two bytes, both widths");
     let numbers = one.plus(two);
@@ -31,22 +29,28 @@ fn main() {
     read.plus(numbers).plus(one).plus(two).print(b"all");
 }
 
-// The text comes in parts, and each but the last fills the buffer. A last one that fills it too may have been cut: that
-// counts as a case that differs.
-fn read_parts() -> Tally {
-    let mut text = io::large_buffer();
+// Prints a line for each group of the text. A last line with no line feed is no whole line, and differs.
+fn run(text: &[u8]) -> Tally {
     let mut space = io::buffer();
-    let mut all = Tally::new();
-    let mut left = PARTS;
-    while 0 < left {
-        let n = io::read_full(STDIN_FILENO, &mut text);
-        all = all.plus(groups::run(&text[..n], &mut space));
-        if n < text.len() {
-            return all;
+    let mut groups = Groups::new();
+    let mut at = 0;
+    while at < text.len() {
+        let end = line_end(text, at);
+        if end == text.len() {
+            return groups.with(false).ended();
         }
-        left -= 1;
+        groups = run_line(groups, &text[at..end], &mut space);
+        at = end + 1;
     }
-    all.with(false)
+    groups.ended()
+}
+
+fn run_line(groups: Groups, line: &[u8], space: &mut [u8]) -> Groups {
+    match Line::of(line) {
+        Line::Heading => groups.headed(line),
+        Line::Remark => groups,
+        Line::Case => groups.with(agrees(line, space)),
+    }
 }
 
 fn shown(t: Tally, name: &[u8]) -> Tally {

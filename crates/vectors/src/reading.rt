@@ -1,6 +1,6 @@
 // What the library answers where it reads, in the terms of document 01.
-use crate::integer::Integer;
-use crate::text::same;
+use cases::integer::Integer;
+use cases::text::same;
 use primitives::Cursor;
 use primitives::Fault;
 use primitives::Int8Read;

@@ -3,10 +3,10 @@
 // number back. "A signed n maps to 2n if n is not negative and to -2n - 1 otherwise; then seven bits a byte, lowest
 // first, the top bit set on all but the last." The other strings are those whose last byte has its top bit set: no
 // whole number stands there.
-use crate::integer::Integer;
 use crate::reading;
 use crate::reading::Outcome;
-use crate::tally::Tally;
+use cases::integer::Integer;
+use cases::tally::Tally;
 
 pub fn one_byte() -> Tally {
     let mut met = [0u8; 256];

@@ -1,6 +1,11 @@
-// Whether the library writes a number as the bytes that are expected.
-use crate::integer::Integer;
-use crate::text::same;
+// Whether the library writes a number as the bytes that are expected, and puts bytes where they belong.
+use cases::integer::Integer;
+use cases::outputs::blot;
+use cases::outputs::is_left;
+use cases::text::Spelled;
+use cases::text::same;
+use cases::text::unsigned;
+use cases::text::word;
 use primitives::Encoded;
 use primitives::Int8;
 use primitives::Int16;
@@ -10,6 +15,10 @@ use primitives::Uint32;
 use primitives::Uint64;
 use primitives::Varint;
 use primitives::Varlong;
+use primitives::put;
+
+// How much room an output may have.
+const MOST_ROOM: usize = 40;
 
 pub fn writes(kind: &[u8], n: Integer, expected: &[u8]) -> bool {
     if same(kind, b"int8") {
@@ -37,6 +46,35 @@ pub fn writes(kind: &[u8], n: Integer, expected: &[u8]) -> bool {
         return varlong(n, expected);
     }
     false
+}
+
+// copy HEX ROOM AT COUNT END
+pub fn copies(bytes: &[u8], line: &[u8]) -> bool {
+    let Spelled::Count(room) = unsigned(word(line, 2)) else {
+        return false;
+    };
+    let Spelled::Count(at) = unsigned(word(line, 3)) else {
+        return false;
+    };
+    let Spelled::Count(count) = unsigned(word(line, 4)) else {
+        return false;
+    };
+    let Spelled::Count(end) = unsigned(word(line, 5)) else {
+        return false;
+    };
+    if bytes.len() < count {
+        return false;
+    }
+    let mut output = [0u8; MOST_ROOM];
+    blot(&mut output);
+    puts_into(&mut output, room, at, bytes, end) && is_left(&output, at, &bytes[..count])
+}
+
+fn puts_into(output: &mut [u8], room: usize, at: usize, bytes: &[u8], end: usize) -> bool {
+    if output.len() < room {
+        return false;
+    }
+    put(bytes, &mut output[..room], at) == end
 }
 
 fn int8(n: Integer, expected: &[u8]) -> bool {

@@ -1,0 +1,19 @@
+-- `cases::integer::Integer::from_i32` is safe and ends. A wider type holds the number. Assumes nothing.
+use borrow.Author.Needs.{needs}
+use lib.Dec.{lit≤}
+use mir.Syntax.{w32, w64}
+use Rattle.primitives.proofs.Signs.{widen-fits}
+use Rattle.cases.proofs.integer.Integer.from_i32.Statement.{statement}
+use Rattle.cases.proofs.integer.Integer.from_i32.Tie as tie
+
+cast-from-i64 : tie.Need-cast-from-i64
+cast-from-i64 c = search (widen-fits w32 w64, needs, lit≤)
+
+from-i64-requires : tie.Need-from-i64-requires
+from-i64-requires c κs = search needs
+
+returns : tie.Need-returns
+returns c = search needs
+
+pub from-i32-spec : {M : Type 1} → statement M
+from-i32-spec = tie.close (tie.spec cast-from-i64 from-i64-requires returns)
