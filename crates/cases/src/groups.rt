@@ -2,7 +2,7 @@
 use crate::tally::Tally;
 use crate::text::starts_with;
 use libc::STDOUT_FILENO;
-ghost use Prim.Native.Nat.{_≤_};
+ghost use Prim.Native.Nat.{_≤_, min};
 ghost use lib.ListN.{length};
 
 // How many bytes a text may have.
@@ -21,10 +21,9 @@ pub struct Groups {
     pub is_headed: bool,
 }
 
-// The place of the first line feed from `from` on, or the end.
+// The place of the first line feed from `from` on, or the end of the text, also where `from` lies past it.
 pub fn line_end(text: &[u8], from: usize) -> usize
-    requires { ⌜ from ≤ length (now text) ⌝ }
-    ensures { λ r. ⌜ (from ≤ r) × (r ≤ length (now (text .entry))) ⌝ }
+    ensures { λ r. ⌜ (min from (length (now (text .entry))) ≤ r) × (r ≤ length (now (text .entry))) ⌝ }
 {
     let mut i = from;
     while i < text.len() {
@@ -33,7 +32,7 @@ pub fn line_end(text: &[u8], from: usize) -> usize
         }
         i += 1;
     }
-    i
+    text.len()
 }
 
 // The counts of a text of so many bytes. One that fills its room may have been cut, and one without cases shows nothing:

@@ -1,5 +1,5 @@
--- `cases::groups::line_end` meets its contract. The place starts at `from` and stays within the text. The
--- measure is what is left of it. Assumes nothing.
+-- `cases::groups::line_end` meets its contract. The place starts at `from` and goes on. The measure is what is left of the
+-- text. Assumes nothing.
 use Prim.Native.Nat.{_≤_, _-_}
 use borrow.Author.Needs.{needs}
 use lib.ListN.{length}
@@ -7,7 +7,7 @@ use Rattle.cases.proofs.groups.line_end.Statement.{statement}
 use Rattle.cases.proofs.groups.line_end.Tie as tie
 
 abbrev Inv-loop : tie.InvT-loop
-Inv-loop text from i₀ i = (from ≤ i) × (i ≤ length text)
+Inv-loop text from i₀ i = from ≤ i
 
 abbrev μ-loop : tie.MeasureT-loop
 μ-loop text from i₀ i = length text - i
