@@ -36,6 +36,7 @@ ABOUT = """\
 #                                is 0, the numbers of all record rows follow, and those of all header rows; all other
 #                                numbers of both tables stay as they are. The check without tables answers the same,
 #                                and 0 in place of 14. records@K reads at place K
+# total LENGTH TOTAL             a batch with that batchLength is TOTAL bytes
 #
 # HEX is capital digits, two to a byte, or - for no bytes."""
 ABOUT_BATCHES = """\
@@ -55,7 +56,6 @@ ABOUT_BATCHES = """\
 # cuts HEX K R H NUMBER [..]     the same for each start of HEX with K bytes or more. A shorter one needs 12 bytes or,
 #                                where it has them, 17 or, where it has them, K
 # time FIRST DELTA [TIME]        a record's time, or none, after that first timestamp, whichever the timestamp type
-# total LENGTH TOTAL             a batch with that batchLength is TOTAL bytes
 # write SOURCE BYTES CODEC KIND COUNT FIELDS NUMBER|ROWS|ROWS
 #                                writing a batch of that kind, and of COUNT records (-1 stands for 2^64 - 1), with the
 #                                ten fields, from both tables and the source, is answered by document 01's NUMBER.
@@ -1777,6 +1777,7 @@ def vectors(text):
     records_headers(text)
     records_several(text)
     records_room(text)
+    batch_sizes(text)
 
 
 def batch_vectors(text):
@@ -1791,7 +1792,6 @@ def batch_vectors(text):
     batches_room(text)
     batches_followed(text)
     record_times(text)
-    batch_sizes(text)
     written_examples(text)
     written_fields(text)
     written_codec(text)

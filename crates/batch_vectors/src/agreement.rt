@@ -15,9 +15,6 @@ pub fn agrees(line: &[u8], space: &mut [u8]) -> bool {
     if same(kind, b"time") {
         return times::agrees(line);
     }
-    if same(kind, b"total") {
-        return times::totals(line);
-    }
     if same(kind, b"large") {
         return large::agrees(line);
     }

@@ -1,11 +1,9 @@
 // Batches: what the library answers, and every number of both tables afterwards.
 use batches::BatchCheck;
-use batches::BatchFault;
 use batches::BatchRead;
 use batches::ControlBatchOrRecords;
 use batches::ControlBatchRecord;
 use batches::RecordBatch;
-use batches::RecordBatchTimestampType;
 use cases::tables::HEADER_MARK;
 use cases::tables::MOST;
 use cases::tables::NO_ROOM;
@@ -19,6 +17,8 @@ use cases::text::before;
 use cases::text::unsigned;
 use cases::text::word;
 use cases::text::words_from;
+use layout::RecordBatchTimestampType;
+use opening::BatchFault;
 
 // An answer is document 01's number and the numbers that are returned with it, 15 at most, and then UNNAMED.
 const NUMBERS: usize = 16;

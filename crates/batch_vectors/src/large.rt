@@ -5,13 +5,13 @@ use crate::writer::ACCEPTED;
 use crate::writer::SHORT_OUTPUT;
 use crate::writer::is_answer;
 use batches::ControlBatchOrRecords;
-use batches::RecordBatchTimestampType;
 use cases::integer::Integer;
 use cases::outputs::blot;
 use cases::outputs::is_left;
 use cases::tables::fill;
 use cases::text::Spelled;
 use cases::text::words_from;
+use layout::RecordBatchTimestampType;
 
 // How many bytes the source has, and each of them: no key may begin with it.
 const SOURCE: usize = 262144;

@@ -1,12 +1,12 @@
-// What follows from the numbers of a batch: the time of a record, and the size of the whole.
+// What follows from the numbers of a batch: the time of a record.
 use batches::RecordBatch;
-use batches::RecordBatchTimestampType;
 use batches::RecordTime;
 use cases::integer::Integer;
 use cases::text::Number;
 use cases::text::decimal;
 use cases::text::word;
 use cases::text::words;
+use layout::RecordBatchTimestampType;
 
 // time FIRST DELTA [TIME]
 pub fn agrees(line: &[u8]) -> bool {
@@ -26,21 +26,6 @@ pub fn agrees(line: &[u8]) -> bool {
         return false;
     };
     has_time(first, delta, time)
-}
-
-// total LENGTH TOTAL
-pub fn totals(line: &[u8]) -> bool {
-    if words(line) != 3 {
-        return false;
-    }
-    let Number::Is(length) = decimal(word(line, 1)) else {
-        return false;
-    };
-    let Number::Is(total) = decimal(word(line, 2)) else {
-        return false;
-    };
-    let size = RecordBatch::total_size(length.to_i32());
-    length.in_signed(0x8000_0000) && Integer::from_i64(size).same(total)
 }
 
 // Document 01: a time is the same whichever the timestamp type.

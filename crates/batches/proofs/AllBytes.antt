@@ -10,9 +10,9 @@ use Rattle.records.specs.Format.{Record}
 use Rattle.records.specs.Judgement.{RecordSpans}
 use Rattle.records.specs.Statements.{Each}
 use Rattle.records.proofs.AllBytes.{records-bytes, shown-of-bytes}
-use Rattle.batches.specs.Table.{uncountedFields, uncheckedFields, checkedFields}
-use Rattle.batches.specs.Batch.{Content, control, records, Batch}
-use Rattle.batches.specs.Format.{concat, ContentBytes, BatchBytes}
+use Rattle.layout.specs.Table.{uncountedFields, uncheckedFields, checkedFields}
+use Rattle.layout.specs.Batch.{Content, control, records, Batch}
+use Rattle.layout.specs.Format.{concat, ContentBytes, BatchBytes}
 use Rattle.batches.specs.Placed.{shownContent}
 
 pub concat-bytes : (xs : List (List ℕ)) → Each Bytes xs → Bytes (concat xs)

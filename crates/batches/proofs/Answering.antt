@@ -4,57 +4,38 @@ use Prim.Native.Nat.{ℕ, _+_, _≤_}
 use mathlib.Core.Path.{_≡_, refl, sym, ap, _∙_, subst}
 use mathlib.Core.Bool.{Bool, true, false}
 use mathlib.Core.List.{List}
-use native.Mathlib.Omega.{arith}
 use lib.ListN.{length, take}
 use Rattle.primitives.specs.declared.Cursor.{Cursor}
 use Rattle.primitives.specs.Step.{Step, ok, no, mapStep}
 use Rattle.primitives.proofs.Steps.{map-ok, map-no}
 use Rattle.records.specs.declared.RecordFault.{RecordFault}
-use Rattle.records.specs.declared.RecordsCheck.{RecordsCheck}
-use Rattle.records.specs.declared.RecordsRead.{RecordsRead}
 use Rattle.records.specs.Judgement.{RecordSpans, recordsAt}
 use Rattle.records.specs.Rows.{Tables}
-use Rattle.records.specs.Answers.{recordNumberOf, Counts, countsOf, viewCheck, viewRead}
-use Rattle.records.specs.Promises.{CheckRecordsPromise, ReadRecordsPromise}
+use Rattle.records.specs.Answers.{recordNumberOf}
 use Rattle.records.proofs.Refusals.{records-refuses}
+use Rattle.reading.specs.declared.RecordsCheck.{RecordsCheck}
+use Rattle.reading.specs.declared.RecordsRead.{RecordsRead}
+use Rattle.reading.specs.Answers.{Counts, countsOf, viewCheck, viewRead}
+use Rattle.reading.specs.Promises.{CheckRecordsPromise, ReadRecordsPromise}
+use Rattle.layout.specs.declared.BatchFields.{BatchFields}
+use Rattle.layout.specs.Fixed.{viewBatchFields}
+use Rattle.layout.specs.Batch.{Fields, Marker, Content, control, records}
+use Rattle.opening.specs.declared.BatchFault.{BatchFault}
+use Rattle.opening.specs.declared.Opened.{Opened}
+use Rattle.opening.specs.Judgement.{Judgement, contentAt, bareMarkerAt, judgeAt}
+use Rattle.opening.specs.Answers.{batchNumberOf, viewOpened}
+use Rattle.opening.specs.Opened.{KnownAt, openAt, judgedAs, judgedFrom}
+use Rattle.opening.proofs.Judging.{judged-by-opening, opened-inside}
 use Rattle.batches.specs.declared.RecordBatch.{RecordBatch}
 use Rattle.batches.specs.declared.ControlBatchRecord.{ControlBatchRecord}
-use Rattle.batches.specs.declared.BatchFault.{BatchFault}
 use Rattle.batches.specs.declared.BatchRead.{BatchRead}
-use Rattle.batches.specs.declared.Frame.{Frame}
-use Rattle.batches.specs.declared.Opened.{Opened}
 use Rattle.batches.specs.declared.ControlBatchRecordRead.{ControlBatchRecordRead}
 use Rattle.batches.specs.declared.BatchCheck.{BatchCheck}
-use Rattle.batches.specs.Batch.{Fields, Marker, Content, control, records}
-use Rattle.batches.specs.Judgement.{Judged, more, refused, accepted, Judgement, totalAt, contentAt, bareMarkerAt, judgeAt}
-use Rattle.batches.specs.Answers.{batchNumberOf, ofRecords, ofMarker, accepts, wants, refuses, viewFields, viewMarker, answerWithRoom}
+use Rattle.batches.specs.Answers.{ofRecords, ofMarker, accepts, wants, refuses, viewFields, viewMarker, answerWithRoom}
 use Rattle.batches.specs.Answers as Answers
 use Rattle.batches.specs.Promises.{ReadOutcome, ReadBy}
-use Rattle.batches.specs.Opening.{frameAt, Known, KnownAt, openingAt, knownAt, openBy, openAt, viewOpened, viewMarkerRead, judgedAs, ofRecordsRead}
-use Rattle.batches.proofs.Tests.{totals}
-use Rattle.batches.proofs.Judging.{total-within, judgedFrom, judge-opened}
-use Rattle.batches.proofs.Verdicts.{more-not-accepted, refused-not-accepted}
+use Rattle.batches.specs.Reading.{viewMarkerRead, ofRecordsRead}
 use Rattle.batches.proofs.Storing.{reads}
-
--- ---- all bytes of the batch are there
-
-known-total : (total : ℕ) (x : Step ℕ Known) (o : KnownAt) → knownAt total x ≡ accepted o → total ≡ o .total
-known-total total (ok x p) o e = ap totalOf e
-  where
-    totalOf : Judged KnownAt → ℕ
-    totalOf (more n) = 0
-    totalOf (refused n) = 0
-    totalOf (accepted y) = y .total
-known-total total (no n) o e = refused-not-accepted e
-
--- what is opened had a frame, whose bytes are there
-open-from : (s : List ℕ) (at : ℕ) (y : Judged Frame) (o : KnownAt) → openBy s at y ≡ accepted o
-    → (x : Frame) × (y ≡ accepted x) × (x .total ≡ o .total)
-open-from s at (more n) o e = more-not-accepted e
-open-from s at (refused n) o e = refused-not-accepted e
-open-from s at (accepted x) o e =
-    let opening = openingAt (x .«base_offset») (x .«partition_leader_epoch») (take (at + x .total) s) at in
-    (x, refl, known-total (x .total) opening o e)
 
 -- ---- a marker needs no room
 
@@ -88,7 +69,7 @@ by-judgement {t = t} {o = o} e x = subst (λ (j : Judgement). ReadBy j t o) e x
 
 module _ (s : List ℕ) (at : ℕ) (a : Opened) (e : viewOpened a ≡ openAt s at) where
   judged : (first : ℕ) (x : Opened) → a ≡ x → judgedFrom bareMarkerAt s at first (viewOpened x) ≡ judgeAt s at first
-  judged first x f = ap (judgedFrom bareMarkerAt s at first) (ap viewOpened (sym f) ∙ e) ∙ sym (judge-opened bareMarkerAt s at first)
+  judged first x f = ap (judgedFrom bareMarkerAt s at first) (ap viewOpened (sym f) ∙ e) ∙ sym (judged-by-opening bareMarkerAt s at first)
 
   pub check-more : (n : ℕ) → a ≡ Opened.MoreBytes n → wants n ≡ answerWithRoom (judgeAt s at 0)
   check-more n f = ap answerWithRoom (judged 0 (Opened.MoreBytes n) f)
@@ -103,64 +84,63 @@ module _ (s : List ℕ) (at : ℕ) (a : Opened) (e : viewOpened a ≡ openAt s a
     pub read-refused : (h : BatchFault) → a ≡ Opened.Refused h → ReadBy (judgeAt s at first) t (record { result = BatchRead.Refused h; tables = t })
     read-refused h f = by-judgement (judged first (Opened.Refused h) f) (record { answer = refl; tables = refl })
 
-  module _ (b : RecordBatch) (c : Bool) (n : ℕ) (next : Cursor) (total : ℕ) (f : a ≡ Opened.Got b c n next total) where
+  module _ (x : BatchFields) (c : Bool) (n : ℕ) (next : Cursor) (total : ℕ) (f : a ≡ Opened.Got x c n next total) where
     pub opened-within : at + total ≤ length s
     opened-within =
-        let known : KnownAt = record { known = record { fields = viewFields b; control = c; count = n }; next = next .at; total = total } in
-        let (x, is, w) = open-from s at (frameAt s at) known (sym e ∙ ap viewOpened f) in
-        let within = total-within s at (totalAt s at) x (totals s at) is in
-        omega (arith, w, within .end)
+        let known : KnownAt = record { known = record { fields = viewBatchFields x; control = c; count = n }; next = next .at; total = total } in
+        opened-inside s at known (sym e ∙ ap viewOpened f) .end
 
-    judged-content : (first : ℕ) (y : Step ℕ (Content RecordSpans)) → y ≡ contentAt bareMarkerAt c (take (at + total) s) n (next .at)
-        → judgedAs (viewFields b) first total y ≡ judgeAt s at first
-    judged-content first y g =
-        ap (judgedAs (viewFields b) first total) g
-        ∙ judged first (Opened.Got b c n next total) f
+    -- the batch that is handed out has the fields that were opened
+    module _ (b : RecordBatch) (same : viewFields b ≡ viewBatchFields x) where
+      judged-content : (first : ℕ) (y : Step ℕ (Content RecordSpans)) → y ≡ contentAt bareMarkerAt c (take (at + total) s) n (next .at)
+          → judgedAs (viewFields b) first total y ≡ judgeAt s at first
+      judged-content first y g =
+          (λ i. judgedAs (same i) first total (g i)) ∙ judged first (Opened.Got x c n next total) f
 
-    -- ---- a marker
+      -- ---- a marker
 
-    module _ (g : c ≡ true) where
-      judged-marker : (first : ℕ) → judgedAs (viewFields b) first total (marked (take (at + total) s) (next .at)) ≡ judgeAt s at first
-      judged-marker first =
-          judged-content first (marked (take (at + total) s) (next .at))
-          (ap (λ (t : Bool). contentAt bareMarkerAt t (take (at + total) s) n (next .at)) (sym g))
+      module _ (g : c ≡ true) where
+        judged-marker : (first : ℕ) → judgedAs (viewFields b) first total (marked (take (at + total) s) (next .at)) ≡ judgeAt s at first
+        judged-marker first =
+            judged-content first (marked (take (at + total) s) (next .at))
+            (ap (λ (t : Bool). contentAt bareMarkerAt t (take (at + total) s) n (next .at)) (sym g))
 
-      module _ (r : BatchCheck) (m : Answers.viewCheck r ≡ answerWithRoom (judgedAs (viewFields b) 0 total (marked (take (at + total) s) (next .at)))) where
-        pub check-marker : Answers.viewCheck r ≡ answerWithRoom (judgeAt s at 0)
-        check-marker = m ∙ ap answerWithRoom (judged-marker 0)
+        module _ (r : BatchCheck) (m : Answers.viewCheck r ≡ answerWithRoom (judgedAs (viewFields b) 0 total (marked (take (at + total) s) (next .at)))) where
+          pub check-marker : Answers.viewCheck r ≡ answerWithRoom (judgeAt s at 0)
+          check-marker = m ∙ ap answerWithRoom (judged-marker 0)
 
-        pub read-marker : (first : ℕ) (t : Tables) (x : BatchRead) → Answers.viewRead x ≡ Answers.viewCheck r
-            → ReadBy (judgeAt s at first) t (record { result = x; tables = t })
-        read-marker first t x h =
-            by-judgement (judged-marker first)
-            (marker-needs-no-room (viewFields b) first total t (bareMarkerAt (take (at + total) s) (next .at)) x (h ∙ m))
+          pub read-marker : (first : ℕ) (t : Tables) (x : BatchRead) → Answers.viewRead x ≡ Answers.viewCheck r
+              → ReadBy (judgeAt s at first) t (record { result = x; tables = t })
+          read-marker first t x h =
+              by-judgement (judged-marker first)
+              (marker-needs-no-room (viewFields b) first total t (bareMarkerAt (take (at + total) s) (next .at)) x (h ∙ m))
 
-    -- ---- records
+      -- ---- records
 
-    module _ (g : c ≡ false) where
-      judged-records : (first : ℕ) (y : Step ℕ (List RecordSpans)) → recordsAt (take (at + total) s) n (next .at) ≡ y
-          → judgedAs (viewFields b) first total (mapStep records y) ≡ judgeAt s at first
-      judged-records first y h =
-          judged-content first (mapStep records y)
-          (ap (mapStep records) (sym h) ∙ ap (λ (t : Bool). contentAt bareMarkerAt t (take (at + total) s) n (next .at)) (sym g))
+      module _ (g : c ≡ false) where
+        judged-records : (first : ℕ) (y : Step ℕ (List RecordSpans)) → recordsAt (take (at + total) s) n (next .at) ≡ y
+            → judgedAs (viewFields b) first total (mapStep records y) ≡ judgeAt s at first
+        judged-records first y h =
+            judged-content first (mapStep records y)
+            (ap (mapStep records) (sym h) ∙ ap (λ (t : Bool). contentAt bareMarkerAt t (take (at + total) s) n (next .at)) (sym g))
 
-      module _ (r : RecordsCheck) (m : CheckRecordsPromise (take (at + total) s) (next .at) n r) where
-        pub check-records-got : (k l q : ℕ) → r ≡ RecordsCheck.Accepted k l q → accepts (viewFields b) ofRecords k l total ≡ answerWithRoom (judgeAt s at 0)
-        check-records-got k l q h =
-            let (rs, reads, is) = map-ok countsOf (recordsAt (take (at + total) s) n (next .at)) (sym m ∙ ap viewCheck h) in
-            ap (λ (x : Counts). accepts (viewFields b) ofRecords (x .records) (x .headers) total) (sym is)
-            ∙ ap answerWithRoom (judged-records 0 (ok rs q) reads)
+        module _ (r : RecordsCheck) (m : CheckRecordsPromise (take (at + total) s) (next .at) n r) where
+          pub check-records-got : (k l q : ℕ) → r ≡ RecordsCheck.Accepted k l q → accepts (viewFields b) ofRecords k l total ≡ answerWithRoom (judgeAt s at 0)
+          check-records-got k l q h =
+              let (rs, reads, is) = map-ok countsOf (recordsAt (take (at + total) s) n (next .at)) (sym m ∙ ap viewCheck h) in
+              ap (λ (x : Counts). accepts (viewFields b) ofRecords (x .records) (x .headers) total) (sym is)
+              ∙ ap answerWithRoom (judged-records 0 (ok rs q) reads)
 
-        pub check-records-refused : (x : RecordFault) → r ≡ RecordsCheck.Refused x → refuses (recordNumberOf x) ≡ answerWithRoom (judgeAt s at 0)
-        check-records-refused x h =
-            ap answerWithRoom
-            (judged-records 0 (no (recordNumberOf x)) (map-no countsOf (recordsAt (take (at + total) s) n (next .at)) (sym m ∙ ap viewCheck h)))
+          pub check-records-refused : (x : RecordFault) → r ≡ RecordsCheck.Refused x → refuses (recordNumberOf x) ≡ answerWithRoom (judgeAt s at 0)
+          check-records-refused x h =
+              ap answerWithRoom
+              (judged-records 0 (no (recordNumberOf x)) (map-no countsOf (recordsAt (take (at + total) s) n (next .at)) (sym m ∙ ap viewCheck h)))
 
-      module _ (first : ℕ) (t t′ : Tables) (r : RecordsRead)
-          (m : ReadRecordsPromise (take (at + total) s) (next .at) n first t (record { result = r; tables = t′ })) where
-        pub read-records-as : (x : BatchRead) → x ≡ ofRecordsRead b total r → ReadBy (judgeAt s at first) t (record { result = x; tables = t′ })
-        read-records-as x h =
-            let w = take (at + total) s in
-            subst (λ (y : BatchRead). ReadBy (judgeAt s at first) t (record { result = y; tables = t′ })) (sym h)
-            (by-judgement (judged-records first (recordsAt w n (next .at)) refl)
-            (reads b first total t t′ (recordsAt w n (next .at)) (records-refuses w n (next .at)) r (m .answer) (m .tables)))
+        module _ (first : ℕ) (t t′ : Tables) (r : RecordsRead)
+            (m : ReadRecordsPromise (take (at + total) s) (next .at) n first t (record { result = r; tables = t′ })) where
+          pub read-records-as : (x : BatchRead) → x ≡ ofRecordsRead b total r → ReadBy (judgeAt s at first) t (record { result = x; tables = t′ })
+          read-records-as x h =
+              let w = take (at + total) s in
+              subst (λ (y : BatchRead). ReadBy (judgeAt s at first) t (record { result = y; tables = t′ })) (sym h)
+              (by-judgement (judged-records first (recordsAt w n (next .at)) refl)
+              (reads b first total t t′ (recordsAt w n (next .at)) (records-refuses w n (next .at)) r (m .answer) (m .tables)))

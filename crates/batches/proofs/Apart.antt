@@ -7,9 +7,10 @@ use native.Mathlib.Omega.{arith}
 use lib.Dec.{eqb}
 use Rattle.primitives.specs.Pick.{pick}
 use Rattle.records.specs.Format.{Record}
-use Rattle.batches.specs.Batch.{TimestampType, createTime, logAppendTime, Content, control, records, Batch}
-use Rattle.batches.specs.Format.{timestampBit, bit, controlBit, higherBits, attributesOf}
-use Rattle.batches.specs.Judgement.{Attributes, apart}
+use Rattle.layout.specs.Batch.{TimestampType, createTime, logAppendTime, Content, control, records, Batch}
+use Rattle.layout.specs.Format.{timestampBit, bit, controlBit, higherBits, attributesOf}
+use Rattle.layout.proofs.Flags.{timestamp-small, bit-small, control-small}
+use Rattle.opening.specs.Judgement.{Attributes, apart}
 
 -- the content is that of a control batch
 abbrev pub controls : {R : Type 0} → Content R → Bool
@@ -39,18 +40,6 @@ bit-again true = refl
 control-again : {R : Type 0} (c : Content R) → eqb (controlBit c) 1 ≡ controls c
 control-again (control m) = refl
 control-again (records rs) = refl
-
-pub timestamp-small : (t : TimestampType) → timestampBit t ≤ 1
-timestamp-small createTime = omega arith
-timestamp-small logAppendTime = omega arith
-
-pub bit-small : (x : Bool) → bit x ≤ 1
-bit-small false = omega arith
-bit-small true = omega arith
-
-pub control-small : {R : Type 0} (c : Content R) → controlBit c ≤ 1
-control-small (control m) = omega arith
-control-small (records rs) = omega arith
 
 -- ---- all of them
 

@@ -8,9 +8,9 @@ use native.Mathlib.Decide.{decLt}
 use native.Mathlib.Nat.{div-div-eq-div-mul}
 use lib.Dec.{eqb}
 use Rattle.primitives.specs.Pick.{pick}
-use Rattle.batches.specs.Batch.{createTime, logAppendTime}
-use Rattle.batches.specs.Format.{timestampBit, bit}
-use Rattle.batches.specs.Judgement.{apart}
+use Rattle.layout.specs.Batch.{createTime, logAppendTime}
+use Rattle.layout.specs.Format.{timestampBit, bit}
+use Rattle.opening.specs.Judgement.{apart}
 
 -- what holds of a bit that is set, and of one that is not
 either : (P : Bool → ℕ → Type 0) → P true 1 → P false 0 → (x : ℕ) → P (eqb (x % 2) 1) (x % 2)

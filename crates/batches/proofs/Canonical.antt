@@ -14,18 +14,18 @@ use Rattle.records.specs.Format.{Record}
 use Rattle.writing.specs.declared.Written.{Written}
 use Rattle.writing.specs.Answers.{given, answerDue, outputDue}
 use Rattle.writing.proofs.Single.{single-written}
-use Rattle.batches.specs.Batch.{Batch}
-use Rattle.batches.specs.Format.{BatchBytes}
+use Rattle.writing.proofs.Outcomes.{given-same}
+use Rattle.layout.specs.Batch.{Batch}
+use Rattle.layout.specs.Format.{BatchBytes}
+use Rattle.opening.proofs.Verdicts.{same-accepted}
 use Rattle.batches.specs.Placed.{placedBatch, shownBatch}
 use Rattle.batches.specs.Writer.{writtenBatch}
 use Rattle.batches.specs.Promises.{Canonical}
 use Rattle.batches.specs.Rewriting.{CanonicalStrict, CanonicalAgain}
 use Rattle.batches.proofs.Complete.{complete}
 use Rattle.batches.proofs.Only.{batch-written}
-use Rattle.batches.proofs.Outcomes.{given-same}
 use Rattle.batches.proofs.Own.{rewritten, Own, own, own-tables-given}
 use Rattle.batches.proofs.Again.{again}
-use Rattle.batches.proofs.Verdicts.{same-accepted}
 
 -- what is written of the batch that canonical bytes show is these bytes
 module _ (s : List ℕ) (bytes : Bytes s) (c : Canonical s) where

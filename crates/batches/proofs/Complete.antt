@@ -12,23 +12,22 @@ use lib.ListN.{length, take}
 use lib.Seq.{length-take-le}
 use Rattle.primitives.specs.Step.{ok}
 use Rattle.primitives.specs.Stands.{Stands}
-use Rattle.primitives.proofs.Places.{first, second}
+use Rattle.primitives.proofs.Places.{first, second, all-left}
 use Rattle.primitives.proofs.Integers.{integer-complete}
 use Rattle.primitives.proofs.Windows.{inside}
 use Rattle.crc32c.specs.Crc.{crc32c}
 use Rattle.records.specs.Format.{Record}
 use Rattle.records.proofs.Complete.{records-complete}
 use Rattle.records.proofs.Shows.{records-shows}
-use Rattle.batches.specs.Table.{table}
-use Rattle.batches.specs.Batch.{Marker, abort, commit, Content, control, records, Batch}
-use Rattle.batches.specs.Format.{howMany, Counts, exactly, minusOne, markerType, MarkerBytes, ContentBytes, BatchBytes}
-use Rattle.batches.specs.Judgement.{accepted, Attributes, numberIn, attributesIn, fieldsIn, totalAt, openedAt, contentAt, wholeAt, judgeWith, markerOf, bareMarkerAt, apart}
+use Rattle.layout.specs.Table.{table}
+use Rattle.layout.specs.Batch.{Marker, abort, commit, Content, control, records, Batch}
+use Rattle.layout.specs.Format.{howMany, Counts, exactly, minusOne, markerType, MarkerBytes, ContentBytes, BatchBytes}
+use Rattle.opening.specs.Judgement.{accepted, Attributes, numberIn, attributesIn, fieldsIn, totalAt, openedAt, contentAt, wholeAt, judgeWith, markerOf, bareMarkerAt, apart}
+use Rattle.opening.proofs.Tests.{Says, there, opened, total-is, opening-is}
 use Rattle.batches.specs.Placed.{placedContent, placedBatch, shownContent}
 use Rattle.batches.specs.Statements.{Complete}
 use Rattle.batches.proofs.Apart.{controls, saidBy, attributes-apart}
 use Rattle.batches.proofs.Parts.{parts-stand, fixed-there, counted-enough, ends}
-use Rattle.primitives.proofs.Places.{all-left}
-use Rattle.batches.proofs.Tests.{Says, there, opened, total-is, opening-is}
 
 -- ---- the marker, or the records
 

@@ -20,14 +20,14 @@ use Rattle.records.specs.Judgement.{RecordSpans}
 use Rattle.records.specs.Statements.{Each, Writable}
 use Rattle.records.specs.Written.{writtenFields, writtenRecord, writtenRecords}
 use Rattle.records.proofs.Encodes.{written-length, run-encodes}
-use Rattle.batches.specs.Table.{FixedFields, unchecked, fixedChecked, uncheckedFields, checkedFields}
-use Rattle.batches.specs.Batch.{Fields, Marker, abort, commit, Content, control, records, Batch}
-use Rattle.batches.specs.Format.{concat, attributesOf, howMany, Counts, markerType, ContentBytes, BatchBytes}
+use Rattle.layout.specs.Table.{FixedFields, unchecked, fixedChecked, uncheckedFields, checkedFields}
+use Rattle.layout.specs.Batch.{Fields, Marker, abort, commit, Content, control, records, Batch}
+use Rattle.layout.specs.Format.{concat, attributesOf, howMany, Counts, markerType, ContentBytes, BatchBytes}
+use Rattle.layout.proofs.Flags.{timestamp-small, bit-small, control-small}
 use Rattle.batches.specs.Placed.{shownContent}
 use Rattle.batches.specs.Writer.{writtenContent, writtenFixed, checkedBytes, batchLengthOf, writtenBatch, mostLength}
 use Rattle.batches.specs.Rewriting.{InWidth}
 use Rattle.batches.proofs.AllBytes.{concat-bytes, content-bytes}
-use Rattle.batches.proofs.Apart.{timestamp-small, bit-small, control-small}
 
 -- ---- what follows the fixed fields
 

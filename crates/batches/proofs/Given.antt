@@ -14,11 +14,11 @@ use Rattle.primitives.specs.Step.{Step, ok, no}
 use Rattle.primitives.proofs.Steps.{map-ok}
 use Rattle.records.specs.Judgement.{RecordSpans}
 use Rattle.records.specs.Rows.{Tables}
-use Rattle.writing.specs.Asked.{RowPlace, recordsAsked}
+use Rattle.asking.specs.Asked.{RowPlace, recordsAsked}
+use Rattle.asking.proofs.Writable.{all-writable, records-asked}
 use Rattle.writing.specs.Answers.{Given, given, refused}
-use Rattle.writing.proofs.Asking.{all-writable, records-asked}
-use Rattle.batches.specs.Batch.{Fields, Content, control, records}
-use Rattle.batches.specs.Format.{BatchBytes}
+use Rattle.layout.specs.Batch.{Fields, Content, control, records}
+use Rattle.layout.specs.Format.{BatchBytes}
 use Rattle.batches.specs.Placed.{shownContent}
 use Rattle.batches.specs.Writer.{writtenContent, batchLengthOf, writtenBatch, Wanted, marker, rows, contentAsked, mostLength, batchGivenBy, batchGiven}
 use Rattle.batches.specs.Rewriting.{InWidth, Numbers64}

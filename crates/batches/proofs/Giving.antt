@@ -1,6 +1,6 @@
 -- What the writer gives of a batch, from what is given of its records: the fixed fields in front of them, as many bytes
 -- more, or the same refusal. The premises have the form in which a proof finds them. Assumes nothing.
-use Prim.Native.Nat.{ℕ, _+_, _-_, _/_, _^_, _≤_, _<_}
+use Prim.Native.Nat.{ℕ, _+_, _-_, _^_, _≤_, _<_}
 use mathlib.Core.Path.{_≡_, refl, sym, ap, _∙_, subst}
 use mathlib.Core.Bool.{Bool, true, false}
 use mathlib.Core.List.{List, _++_, append-assoc, append-nil}
@@ -9,7 +9,7 @@ use native.Mathlib.Decide.{decLe}
 use borrow.Author.Tests.{leb-false, le-leb, lt-leb, eq-eqb, ne-eqb}
 use lib.Dec.{leb}
 use lib.IntN.{ℤ, pos}
-use lib.ListN.{length, take, drop, length-append, length-take, length-drop, length-map}
+use lib.ListN.{length, take, drop, length-append, length-map}
 use lib.Seq.{take-at, drop-at, length-take-le}
 use mir.Syntax.{w32}
 use mir.Val.{toZ}
@@ -19,33 +19,33 @@ use Rattle.primitives.specs.Pen.{pen, emit}
 use Rattle.primitives.specs.Step.{Step, ok, no, mapStep}
 use Rattle.primitives.proofs.Integers.{big-endian-length}
 use Rattle.primitives.proofs.Pens.{emit-inside}
-use Rattle.primitives.proofs.Picks.{picked}
 use Rattle.primitives.proofs.Refusing.{RefusedBy}
-use Rattle.primitives.proofs.Steps.{times-count}
 use Rattle.crc32c.specs.Crc.{crc32c}
 use Rattle.records.specs.Format.{Record}
 use Rattle.records.specs.Judgement.{RecordSpans}
 use Rattle.records.specs.Placed.{shownRecord, shownRecords}
 use Rattle.records.specs.Rows.{Tables}
 use Rattle.records.specs.Written.{writtenRecords}
-use Rattle.writing.specs.declared.WriteFault.{WriteFault}
+use Rattle.asking.specs.declared.WriteFault.{WriteFault}
+use Rattle.asking.specs.Asked.{RowPlace, rowPlace, recordsAsked}
+use Rattle.asking.specs.Answers.{writeNumberOf}
+use Rattle.asking.proofs.Accepted.{asked-many}
+use Rattle.asking.proofs.Refusals.{RowFault, records-refused}
 use Rattle.writing.specs.declared.Written.{Written}
-use Rattle.writing.specs.Asked.{RowPlace, rowPlace, recordAsked, recordsAsked}
-use Rattle.writing.specs.Answers.{Answer, writeNumberOf, writes, refuses, viewWritten, Given, given, refused, mostBytes, recordsGiven, measured, over, answerDue, outputDue}
+use Rattle.writing.specs.Answers.{Answer, writes, refuses, viewWritten, Given, given, refused, mostBytes, recordsGiven, measured, over, answerDue, outputDue}
 use Rattle.writing.specs.Promises.{WriteOutcome, WriteBy}
-use Rattle.writing.proofs.Refusals.{RowFault, records-refused}
+use Rattle.writing.proofs.Outcomes.{numbers, apart, given-same, put, over-length}
+use Rattle.layout.specs.Table.{uncounted, unchecked, fixedChecked, fixedPart}
+use Rattle.layout.specs.Batch.{Fields, Marker, Content, control, records, Batch}
+use Rattle.layout.specs.Format.{concat, bit, controlBit, attributesOf, howMany}
+use Rattle.layout.specs.Fixed.{attributesFor, frameBytes, timesBytes, producerBytes, checkedPart, fixedBefore}
+use Rattle.layout.proofs.Putting.{fixed-length}
 use Rattle.batches.specs.declared.ControlBatchRecord.{ControlBatchRecord}
 use Rattle.batches.specs.declared.ControlBatchOrRecords.{ControlBatchOrRecords}
-use Rattle.batches.specs.Table.{unchecked, fixedChecked, fixedPart}
-use Rattle.batches.specs.Batch.{Fields, Marker, Content, control, records, Batch}
-use Rattle.batches.specs.Format.{concat, bit, controlBit, attributesOf, howMany}
 use Rattle.batches.specs.Writer.{writtenContent, checkedBytes, batchLengthOf, writtenBatch, mostLength, viewWanted, contentAsked, batchGivenBy, batchGiven}
 use Rattle.batches.specs.Answers.{viewMarker}
-use Rattle.batches.specs.Fixed.{attributesFor, frameBytes, timesBytes, producerBytes, checkedPart, fixedBefore}
 use Rattle.batches.proofs.Apart.{controls}
 use Rattle.batches.proofs.Encodes.{many-within, content-length, shows}
-use Rattle.batches.proofs.Outcomes.{numbers, given-same, put}
-use Rattle.batches.proofs.Putting.{fixed-length}
 
 -- ---- the fixed fields and the body are the batch
 
@@ -76,25 +76,28 @@ module _ (b : Batch Record) where
   unfolding writtenBatch frameBytes concat
   framed batchLength crc checked e f g = rw (e, f, g) (simp (append-assoc, append-nil))
 
-  before-is : fixedBefore (b .fields) attributesPut countPut body ++ body ≡ writtenBatch b
+  -- what batchLength counts
+  abbrev lengthPut : ℤ
+  lengthPut = pos (unchecked + fixedChecked + length body)
+
+  before-is : fixedBefore (b .fields) lengthPut attributesPut countPut body ++ body ≡ writtenBatch b
   unfolding fixedBefore
   before-is =
-      append-assoc (frameBytes (b .fields) (pos (unchecked + fixedChecked + length body)) _) (checkedPart (b .fields) attributesPut countPut) body
+      append-assoc (frameBytes (b .fields) lengthPut _) (checkedPart (b .fields) attributesPut countPut) body
       ∙ framed _ _ _ (sym (content-length b)) (ap crc32c checked-is) checked-is
 
   pub written-length : length (writtenBatch b) ≡ fixedPart + length body
-  unfolding fixedBefore
   written-length =
       ap length (sym before-is)
-      ∙ length-append (fixedBefore (b .fields) attributesPut countPut body) body
-      ∙ ap (λ (n : ℕ). n + length body) (fixed-length (b .fields) attributesPut countPut _ _)
+      ∙ length-append (fixedBefore (b .fields) lengthPut attributesPut countPut body) body
+      ∙ ap (λ (n : ℕ). n + length body) (fixed-length (b .fields) lengthPut attributesPut countPut body)
 
   -- and in an output, in front of the body
-  pub finished : (out out′ : List ℕ) (end : ℕ) (attributes count : ℤ) (output : List ℕ) → end ≡ fixedPart + length body → end ≤ length out
-      → out′ ≡ over fixedPart body out → attributes ≡ attributesPut → count ≡ countPut
-      → output ≡ fixedBefore (b .fields) attributes count (take (end - fixedPart) (drop fixedPart out′)) ++ drop fixedPart out′
+  pub finished : (out out′ : List ℕ) (end : ℕ) (count : ℤ) (output : List ℕ) → end ≡ fixedPart + length body → end ≤ length out
+      → out′ ≡ over fixedPart body out → count ≡ countPut
+      → output ≡ fixedBefore (b .fields) (pos (end - uncounted)) attributesPut count (take (end - fixedPart) (drop fixedPart out′)) ++ drop fixedPart out′
       → WriteBy (given (writtenBatch b)) 0 out (record { result = Written.Bytes end; output = output })
-  finished out out′ end attributes count output ends room is same same′ e =
+  finished out out′ end count output ends room is same e =
       let long : 0 + length (writtenBatch b) ≡ end = omega (arith, written-length) in
       let rest : List ℕ = drop end out in
       let after : drop fixedPart out′ ≡ body ++ rest
@@ -102,14 +105,15 @@ module _ (b : Batch Record) where
       ∙ drop-at (take fixedPart out) _ fixedPart (length-take-le fixedPart out (omega arith))
       ∙ ap (λ (n : ℕ). body ++ drop n out) (sym ends) in
       let size : end - fixedPart ≡ length body = omega arith in
+      let counted : end - uncounted ≡ unchecked + fixedChecked + length body = omega arith in
       let shown : take (end - fixedPart) (drop fixedPart out′) ≡ body
       = (λ i. take (size i) (after i)) ∙ take-at body rest (length body) refl in
       record {
         answer = rw (le-leb (0 + length (writtenBatch b)) (length out) (omega arith)) (ap writes (omega arith));
         output =
             e
-            ∙ (λ i. fixedBefore (b .fields) (same i) (same′ i) (shown i) ++ after i)
-            ∙ sym (append-assoc (fixedBefore (b .fields) attributesPut countPut body) body rest)
+            ∙ (λ i. fixedBefore (b .fields) (pos (counted i)) attributesPut (same i) (shown i) ++ after i)
+            ∙ sym (append-assoc (fixedBefore (b .fields) lengthPut attributesPut countPut body) body rest)
             ∙ (λ i. before-is i ++ drop (sym long i) out)
             ∙ rw (le-leb (0 + length (writtenBatch b)) (length out) (omega arith));
       }
@@ -143,14 +147,14 @@ module _ (x : Fields) (m : Marker) (out : List ℕ) where
   pub marker-short : length out < 65 → WriteBy (given (writtenBatch (marks x m))) 0 out (record { result = Written.Refused WriteFault.ShortOutput; output = out })
   marker-short h = unfinished (marks x m) out (omega (arith, marker-length m))
 
-  pub marker-written : (out′ : List ℕ) (next : ℕ) (attributes : ℤ) (output : List ℕ) → 65 ≤ length out
-      → pen next out′ ≡ emit (writtenContent (control m)) (pen fixedPart out) → attributes ≡ pos (attributesFor x true)
-      → output ≡ fixedBefore x attributes (pos 1) (take (65 - fixedPart) (drop fixedPart out′)) ++ drop fixedPart out′
+  pub marker-written : (out′ : List ℕ) (next : ℕ) (output : List ℕ) → 65 ≤ length out
+      → pen next out′ ≡ emit (writtenContent (control m)) (pen fixedPart out)
+      → output ≡ fixedBefore x (pos (65 - uncounted)) (pos (attributesFor x true)) (pos 1) (take (65 - fixedPart) (drop fixedPart out′)) ++ drop fixedPart out′
       → WriteBy (given (writtenBatch (marks x m))) 0 out (record { result = Written.Bytes 65; output = output })
-  marker-written out′ next attributes output room put same e =
+  marker-written out′ next output room put e =
       let four = marker-length m in
       let is = emit-inside fixedPart out (writtenContent (control m)) next out′ put (omega arith) in
-      finished (marks x m) out out′ 65 attributes (pos 1) output (omega arith) room is same refl e
+      finished (marks x m) out out′ 65 (pos 1) output (omega arith) room is refl e
 
 -- ---- what is given of records, and what of their batch
 
@@ -178,17 +182,6 @@ beside x s (ok rs p) w =
 beside x s (no n) (l, h) = neither n (omega arith)
 
 -- ---- measured
-
-fault-numbered : (f : WriteFault) → 0 < writeNumberOf f
-fault-numbered WriteFault.Codec = omega arith
-fault-numbered WriteFault.Row = omega arith
-fault-numbered WriteFault.KeyNotUtf8 = omega arith
-fault-numbered WriteFault.TooLong = omega arith
-fault-numbered WriteFault.ShortOutput = omega arith
-
--- no length and no refusal say the same
-apart : {X : Type 0} (f : WriteFault) {n : ℕ} → refuses (writeNumberOf f) ≡ writes n → X
-apart f e = absurd (omega (arith, fault-numbered f, numbers e))
 
 rows-written-length : (x : Fields) (s : List ℕ) (rs : List RecordSpans)
     → length (writtenBatch (shows x s (records rs))) ≡ fixedPart + length (writtenRecords (shownRecords s rs))
@@ -267,10 +260,6 @@ measured-small x t s n r size p h =
 
 -- ---- written
 
-asked-many : (t : Tables) (s : List ℕ) (n : ℕ) {rs : List RecordSpans} {p : RowPlace} → recordsAsked t s 0 n ≡ ok rs p → length rs ≡ n
-unfolding recordsAsked
-asked-many t s n e = times-count (recordAsked t s) n (rowPlace 0 0) (picked (leb n (length (t .records) / 8)) _ 21 e .1)
-
 module _ (x : Fields) (s : List ℕ) (asked : Step RowPlace (List RecordSpans)) (out out′ : List ℕ) where
   -- the records stand in their place, and this is what is given of their batch
   record Wrote (size : ℕ) (g : Given) : Type 0 where
@@ -316,9 +305,6 @@ module _ (x : Fields) (s : List ℕ) (asked : Step RowPlace (List RecordSpans)) 
   not-wrote (both rs p _ short) f e is = refused-by _ (shows x s (records rs)) f _ refl e is
   not-wrote (neither n some) f e is = record { answer = e; output = is }
 
-over-length : (at : ℕ) (bs out : List ℕ) → at + length bs ≤ length out → length (over at bs out) ≡ length out
-over-length at bs out h = simp (length-append, length-take, length-drop) (omega arith)
-
 module _ (x : Fields) (t : Tables) (s : List ℕ) (n : ℕ) (r : Written) (out out′ : List ℕ)
     (p : WriteBy (recordsGiven s (recordsAsked t s 0 n)) fixedPart out (record { result = r; output = out′ })) where
   abbrev asked-rows : Step RowPlace (List RecordSpans)
@@ -343,7 +329,7 @@ module _ (x : Fields) (t : Tables) (s : List ℕ) (n : ℕ) (r : Written) (out o
       pub many : n < 2 ^ 31
 
     many-is : howMany (batch .content) ≡ n
-    many-is = length-map (rows-wrote .rs) (shownRecord s) ∙ asked-many t s n (rows-wrote .is)
+    many-is = length-map (rows-wrote .rs) (shownRecord s) ∙ asked-many t s 0 n (rows-wrote .is)
 
     pub rows-sizes : Sizes
     unfolding writtenContent
@@ -357,12 +343,12 @@ module _ (x : Fields) (t : Tables) (s : List ℕ) (n : ℕ) (r : Written) (out o
           many = omega (arith, many-within (batch .content), many-is, w .short, w .size-is);
         }
 
-    pub rows-written : (attributes : ℤ) (output : List ℕ) → attributes ≡ pos (attributesFor x false)
-        → output ≡ fixedBefore x attributes (toZ w32 n) (take (fixedPart + size - fixedPart) (drop fixedPart out′)) ++ drop fixedPart out′
+    pub rows-written : (output : List ℕ)
+        → output ≡ fixedBefore x (pos (fixedPart + size - uncounted)) (pos (attributesFor x false)) (toZ w32 n) (take (fixedPart + size - fixedPart) (drop fixedPart out′)) ++ drop fixedPart out′
         → WriteBy (batchGivenBy x s (mapStep records asked-rows)) 0 out (record { result = Written.Bytes (fixedPart + size); output = output })
     unfolding writtenContent
-    rows-written attributes output same e =
+    rows-written output e =
         let w = rows-wrote in
         let count = toZ-pos w32 n (rows-sizes .many) ∙ ap pos (sym many-is) in
         subst (λ (g : Given). WriteBy g 0 out (record { result = Written.Bytes (fixedPart + size); output = output })) (sym (w .gives))
-        (finished batch out out′ (fixedPart + size) attributes (toZ w32 n) output (ap (λ (k : ℕ). fixedPart + k) (w .size-is)) (w .room) (w .output-is) same count e)
+        (finished batch out out′ (fixedPart + size) (toZ w32 n) output (ap (λ (k : ℕ). fixedPart + k) (w .size-is)) (w .room) (w .output-is) count e)

@@ -17,13 +17,13 @@ use Rattle.primitives.specs.declared.Int16Read.{Int16Read}
 use Rattle.primitives.specs.Step.{Step, ok, no, andThen}
 use Rattle.primitives.specs.Reading.{integerAt}
 use Rattle.primitives.specs.Answers.{numberOf, viewInt16}
-use Rattle.batches.specs.declared.BatchFault.{BatchFault}
+use Rattle.layout.specs.Batch.{Marker, abort, commit}
+use Rattle.opening.specs.declared.BatchFault.{BatchFault}
+use Rattle.opening.specs.Judgement.{markerOf, endedAt, bareMarkerAt}
+use Rattle.opening.proofs.SignedTests.{bits-number, bits-other}
 use Rattle.batches.specs.declared.ControlBatchRecord.{ControlBatchRecord}
 use Rattle.batches.specs.declared.ControlBatchRecordRead.{ControlBatchRecordRead}
-use Rattle.batches.specs.Batch.{Marker, abort, commit}
-use Rattle.batches.specs.Judgement.{markerOf, endedAt, bareMarkerAt}
-use Rattle.batches.specs.Opening.{viewMarkerRead, isOk}
-use Rattle.batches.proofs.SignedTests.{bits-number, bits-other}
+use Rattle.batches.specs.Reading.{viewMarkerRead, isOk}
 
 -- ---- what follows
 

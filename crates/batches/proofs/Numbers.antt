@@ -14,15 +14,15 @@ use lib.ListN.{length, take, length-take}
 use Rattle.primitives.specs.Exactly.{Exactly}
 use Rattle.primitives.specs.Step.{ok, no, andThen}
 use Rattle.primitives.specs.Reading.{signedBy, integerAt}
+use Rattle.primitives.proofs.Windows.{big-window}
 use Rattle.records.proofs.Refusals.{Refuses, refusal-within, and-then-refuses, pick-refuses, integer-refuses, records-refuses}
-use Rattle.batches.specs.Table.{Slot, table}
-use Rattle.batches.specs.Batch.{Marker, abort, commit}
-use Rattle.batches.specs.Judgement.{refused, accepted, unsignedIn, numberIn, attributesIn, is, below, Control, contentAt, markerOf, endedAt, bareMarkerAt, judge}
+use Rattle.layout.specs.Table.{Slot, table}
+use Rattle.layout.specs.Batch.{Marker, abort, commit}
+use Rattle.opening.specs.Judgement.{refused, accepted, unsignedIn, numberIn, attributesIn, is, below, Control, contentAt, markerOf, endedAt, bareMarkerAt, judge}
+use Rattle.opening.proofs.Tests.{Totals, low, unknown, there, is-false, Openings, no-attributes, unknown-codec, no-fields, low-count, compressed, wrong-count}
 use Rattle.batches.specs.Answers.{Standing}
 use Rattle.batches.specs.Statements.{Within, Refusals, BareMarkerWithin, Whole, sum, Checked, codec, Below, CountIs, CountBelow, Numbers}
-use Rattle.batches.proofs.Tests.{Totals, low, unknown, there, is-false, Openings, no-attributes, unknown-codec, no-fields, low-count, compressed, wrong-count}
 use Rattle.batches.proofs.Refused.{Right, WholeRefusal, differs, unopened, unread, Refusal, unsized, sized, refusal, refused-is, content-no}
-use Rattle.primitives.proofs.Windows.{big-window}
 
 -- ---- the bare marker
 

@@ -14,8 +14,8 @@ use Rattle.crc32c.specs.Crc.{crc32c}
 use Rattle.records.specs.Format.{Record}
 use Rattle.records.proofs.Written.{run-written}
 use Rattle.records.proofs.Shortest.{run-shortest}
-use Rattle.batches.specs.Batch.{Content, control, records, Batch}
-use Rattle.batches.specs.Format.{concat, Counts, exactly, ContentBytes, BatchBytes}
+use Rattle.layout.specs.Batch.{Content, control, records, Batch}
+use Rattle.layout.specs.Format.{concat, Counts, exactly, ContentBytes, BatchBytes}
 use Rattle.batches.specs.Writer.{writtenContent, checkedBytes, batchLengthOf, writtenBatch, mostLength}
 use Rattle.batches.specs.Rewriting.{WrittenShortest, WrittenOnly}
 use Rattle.batches.proofs.Encodes.{content-length}

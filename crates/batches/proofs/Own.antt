@@ -17,12 +17,12 @@ use Rattle.records.specs.Rows.{headersIn, Tables, tables}
 use Rattle.records.specs.Statements.{Each}
 use Rattle.records.proofs.Inside.{RecordInside, records-inside}
 use Rattle.records.proofs.Writable.{run-writable}
-use Rattle.writing.specs.Asked.{RowPlace, rowPlace}
+use Rattle.asking.specs.Asked.{RowPlace, rowPlace}
+use Rattle.asking.proofs.Own.{own-rows}
 use Rattle.writing.specs.Answers.{given}
-use Rattle.writing.proofs.Own.{own-rows}
-use Rattle.batches.specs.Batch.{Content, control, records, Batch}
-use Rattle.batches.specs.Format.{ContentBytes, BatchBytes}
-use Rattle.batches.specs.Judgement.{accepted, Accepted, judge}
+use Rattle.layout.specs.Batch.{Content, control, records, Batch}
+use Rattle.layout.specs.Format.{ContentBytes, BatchBytes}
+use Rattle.opening.specs.Judgement.{accepted, Accepted, judge}
 use Rattle.batches.specs.Placed.{placedContent, shownContent, shownBatch}
 use Rattle.batches.specs.Answers.{roomsOf, hasRoom, stored}
 use Rattle.batches.specs.Writer.{batchLengthOf, writtenBatch, wantedOf, contentAsked, mostLength, batchGiven, ownTables}

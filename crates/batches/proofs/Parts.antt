@@ -11,15 +11,14 @@ use lib.ListN.{length}
 use Rattle.primitives.specs.Stands.{Stands}
 use Rattle.primitives.specs.Format.{Unsigned, Integer}
 use Rattle.primitives.proofs.Places.{first, second}
-use Rattle.primitives.proofs.Integers.{unsigned-complete, integer-complete}
+use Rattle.primitives.proofs.Integers.{unsigned-complete, integer-complete, unsigned-length, integer-length}
+use Rattle.primitives.proofs.Values.{unsigned-value, integer-value}
 use Rattle.crc32c.specs.Crc.{crc32c}
 use Rattle.records.specs.Format.{Record}
-use Rattle.batches.specs.Table.{Slot, table, uncounted, unchecked, fixedPart}
-use Rattle.batches.specs.Batch.{Batch}
-use Rattle.batches.specs.Format.{concat, attributesOf, BatchBytes}
-use Rattle.batches.specs.Judgement.{unsignedIn, numberIn}
-use Rattle.primitives.proofs.Integers.{unsigned-length, integer-length}
-use Rattle.primitives.proofs.Values.{unsigned-value, integer-value}
+use Rattle.layout.specs.Table.{Slot, table, uncounted, unchecked, fixedPart}
+use Rattle.layout.specs.Batch.{Batch}
+use Rattle.layout.specs.Format.{concat, attributesOf, BatchBytes}
+use Rattle.opening.specs.Judgement.{unsignedIn, numberIn}
 
 -- ---- fields that stand one after the other: the first, and those after it
 

@@ -10,14 +10,14 @@ use lib.IntN.{pos}
 use lib.ListN.{length, take, drop}
 use Rattle.primitives.specs.Step.{Step, ok, no}
 use Rattle.primitives.proofs.Steps.{and-then-ok, map-ok}
+use Rattle.primitives.proofs.Picks.{picked}
 use Rattle.crc32c.specs.Crc.{crc32c}
 use Rattle.records.specs.Judgement.{RecordSpans}
-use Rattle.batches.specs.Table.{table}
-use Rattle.batches.specs.Batch.{Content}
-use Rattle.batches.specs.Judgement.{Judged, more, refused, accepted, Accepted, unsignedIn, numberIn, attributesIn, fieldsIn, Control, contentAt, totalAt, openedAt, wholeAt, judgementOf, judgeWhole, judgeWith}
-use Rattle.primitives.proofs.Picks.{picked}
-use Rattle.batches.proofs.Verdicts.{more-not-accepted, refused-not-accepted}
-use Rattle.batches.proofs.Tests.{Totals, there, totals, Says, Openings, opened, openings}
+use Rattle.layout.specs.Table.{table}
+use Rattle.layout.specs.Batch.{Content}
+use Rattle.opening.specs.Judgement.{Judged, more, refused, accepted, Accepted, unsignedIn, numberIn, attributesIn, fieldsIn, Control, contentAt, totalAt, openedAt, wholeAt, judgementOf, judgeWhole, judgeWith}
+use Rattle.opening.proofs.Verdicts.{more-not-accepted, refused-not-accepted}
+use Rattle.opening.proofs.Tests.{Totals, there, totals, Says, Openings, opened, openings}
 
 -- ---- the batch's bytes w, which end where the list ends
 

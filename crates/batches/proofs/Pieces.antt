@@ -1,7 +1,7 @@
 -- Each fixed field is read from as many bytes as it has, and these stand there as its encoding; the fields follow each
 -- other, so their bytes stand joined. Assumes nothing.
 use Prim.Native.Nat.{ℕ, _+_, _≤_, _<_}
-use mathlib.Core.Path.{_≡_, refl, sym, ap, _∙_, subst, subst₂}
+use mathlib.Core.Path.{_≡_, sym, ap, _∙_, subst, subst₂}
 use mathlib.Core.List.{List, [], _∷_, map}
 use native.Mathlib.Omega.{arith}
 use native.Mathlib.Nat.{add-zero}
@@ -13,15 +13,11 @@ use Rattle.primitives.specs.Format.{Unsigned, Integer}
 use Rattle.primitives.specs.Reading.{integerAt}
 use Rattle.primitives.proofs.Integers.{unsigned-in, unsigned-sound, integer-sound}
 use Rattle.primitives.proofs.Places.{nothing, shows, joined}
-use Rattle.batches.specs.Table.{FixedFields, Slot, table, uncounted, unchecked, fixedPart, uncountedFields, uncheckedFields, checkedFields}
-use Rattle.batches.specs.Format.{concat}
-use Rattle.batches.specs.Judgement.{unsignedIn, numberIn}
-use Rattle.batches.specs.Statements.{RunOn, TableRunsOn}
-
-pub table-runs-on : TableRunsOn
-unfolding RunOn
-table-runs-on =
-    ((refl, (refl, refl)), (refl, (refl, (refl, refl))), (refl, (refl, (refl, (refl, (refl, (refl, (refl, (refl, refl)))))))), refl)
+use Rattle.layout.specs.Table.{FixedFields, Slot, table, uncounted, unchecked, fixedPart, uncountedFields, uncheckedFields, checkedFields}
+use Rattle.layout.specs.Format.{concat}
+use Rattle.layout.specs.Statements.{RunOn}
+use Rattle.layout.proofs.Table.{table-runs-on}
+use Rattle.opening.specs.Judgement.{unsignedIn, numberIn}
 
 -- where an encoding of n bytes stands, these n bytes are one
 taken : {A : Type 0} {G : List ℕ → A → Type 0} {s : List ℕ} {p : ℕ} {a : A} (n : ℕ) → Encoding G s p (p + n) a

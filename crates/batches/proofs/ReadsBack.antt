@@ -13,9 +13,9 @@ use Rattle.records.specs.Format.{Record}
 use Rattle.records.specs.Judgement.{RecordSpans}
 use Rattle.records.specs.Rows.{headersIn, Tables}
 use Rattle.records.specs.Placed.{shownHeader, shownRecord, shownRecords}
-use Rattle.batches.specs.Batch.{Content, control, records, Batch}
-use Rattle.batches.specs.Format.{BatchBytes}
-use Rattle.batches.specs.Judgement.{Judgement, Accepted}
+use Rattle.layout.specs.Batch.{Content, control, records, Batch}
+use Rattle.layout.specs.Format.{BatchBytes}
+use Rattle.opening.specs.Judgement.{Judgement, Accepted}
 use Rattle.batches.specs.Placed.{placedBatch, shownContent}
 use Rattle.batches.specs.Answers.{viewRead, acceptedAs, lacksRoom, recordsIn, headersOf, roomsOf, hasRoom, stored}
 use Rattle.batches.specs.Promises.{ReadOutcome, ReadBy, ReadPromise}

@@ -11,9 +11,10 @@ use Rattle.primitives.specs.Exactly.{Exactly}
 use Rattle.primitives.specs.Step.{Step, ok, no}
 use Rattle.records.specs.Judgement.{RecordSpans}
 use Rattle.records.specs.Rows.{Tables}
+use Rattle.layout.specs.Batch.{Content, control, records}
+use Rattle.opening.specs.Judgement.{Judgement, Judged, more, refused, accepted, Accepted, Control, judgementOf, wholeAt, judgeWhole, judgeWith, totalAt, bareMarkerAt, judge}
+use Rattle.opening.proofs.Tests.{Totals, few, low, short, unknown, lacking, there, totals, total-is}
 use Rattle.batches.specs.declared.BatchRead.{BatchRead}
-use Rattle.batches.specs.Batch.{Content, control, records}
-use Rattle.batches.specs.Judgement.{Judgement, Judged, more, refused, accepted, Accepted, Control, judgementOf, wholeAt, judgeWhole, judgeWith, totalAt, bareMarkerAt, judge}
 use Rattle.batches.specs.Answers.{Standing, Answer, viewRead, wants, lacksRoom, recordsIn, headersOf, roomsOf, hasRoom, answerOf}
 use Rattle.batches.specs.Promises.{ReadOutcome, ReadBy}
 use Rattle.batches.specs.Statements.{movedJudgement}
@@ -21,7 +22,6 @@ use Rattle.batches.specs.Demand3.{Lacks, length-lacks, magic-lacks, batc
 use Rattle.batches.proofs.Numbers.{refusals, bare-marker-within}
 use Rattle.batches.proofs.Shifted.{first-header-shifted}
 use Rattle.batches.proofs.Single.{view-read-injective}
-use Rattle.batches.proofs.Tests.{Totals, few, low, short, unknown, lacking, there, totals, total-is}
 use Rattle.batches.proofs.Rooms.{room-short, short-room, Goes, wanting, refusing, roomy, cramped, goes, numbered}
 
 -- accepted with n records and m headers, for which there is no room

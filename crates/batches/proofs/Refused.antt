@@ -12,11 +12,11 @@ use Rattle.primitives.specs.Step.{Step, ok, no, andThen, mapStep}
 use Rattle.primitives.proofs.Steps.{and-then-no, map-no}
 use Rattle.crc32c.specs.Crc.{crc32c}
 use Rattle.records.specs.Judgement.{recordsAt}
-use Rattle.batches.specs.Table.{table}
-use Rattle.batches.specs.Batch.{control, records}
-use Rattle.batches.specs.Judgement.{Judged, more, refused, accepted, Accepted, unsignedIn, attributesIn, fieldsIn, totalAt, openedAt, Control, contentAt, wholeAt, judgementOf, judgeWhole, judgeWith}
-use Rattle.batches.proofs.Verdicts.{more-not-refused, refused-not-accepted}
-use Rattle.batches.proofs.Tests.{Totals, totals, total-is, Openings, openings, opening-is}
+use Rattle.layout.specs.Table.{table}
+use Rattle.layout.specs.Batch.{control, records}
+use Rattle.opening.specs.Judgement.{Judged, more, refused, accepted, Accepted, unsignedIn, attributesIn, fieldsIn, totalAt, openedAt, Control, contentAt, wholeAt, judgementOf, judgeWhole, judgeWith}
+use Rattle.opening.proofs.Verdicts.{more-not-refused, refused-not-accepted}
+use Rattle.opening.proofs.Tests.{Totals, totals, total-is, Openings, openings, opening-is}
 
 -- ---- of the batch's bytes
 

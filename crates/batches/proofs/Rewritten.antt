@@ -6,8 +6,8 @@ use mathlib.Core.Bool.{true}
 use mathlib.Core.List.{List, [], append-nil}
 use Rattle.records.specs.Judgement.{RecordSpans}
 use Rattle.writing.specs.Answers.{given}
-use Rattle.batches.specs.Batch.{Content}
-use Rattle.batches.specs.Format.{BatchBytes}
+use Rattle.layout.specs.Batch.{Content}
+use Rattle.layout.specs.Format.{BatchBytes}
 use Rattle.batches.specs.Answers.{viewFields}
 use Rattle.batches.specs.Writer.{viewWanted, batchGiven}
 use Rattle.batches.specs.Promises.{CanonicalPromise}

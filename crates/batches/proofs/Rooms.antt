@@ -9,15 +9,15 @@ use native.Mathlib.Omega.{arith}
 use borrow.Author.Tests.{leb-true, leb-false, le-leb, lt-leb}
 use lib.Dec.{leb}
 use lib.ListN.{length}
+use Rattle.primitives.proofs.Picks.{both-hold, one-fails, second-fails}
 use Rattle.records.specs.Judgement.{RecordSpans}
 use Rattle.records.specs.Rows.{headersIn, Tables}
-use Rattle.batches.specs.Batch.{Content, control, records}
-use Rattle.batches.specs.Judgement.{Judgement, more, refused, accepted, Accepted, judgeWith, bareMarkerAt, judge}
+use Rattle.layout.specs.Batch.{Content, control, records}
+use Rattle.opening.specs.Judgement.{Judgement, more, refused, accepted, Accepted, judgeWith, bareMarkerAt, judge}
 use Rattle.batches.specs.Answers.{Answer, viewCheck, viewRead, answerWithRoom, wants, refuses, acceptedAs, lacksRoom, recordsIn, headersOf, Rooms, roomsOf, hasRoom, answerOf, stored}
 use Rattle.batches.specs.Promises.{ReadOutcome, ReadBy}
 use Rattle.batches.specs.Statements.{Untouched, CheckAgrees}
 use Rattle.batches.specs.Demand3.{AtLeast, Same, RoomFreeWith, RoomFree}
-use Rattle.primitives.proofs.Picks.{both-hold, one-fails, second-fails}
 use Rattle.batches.proofs.Single.{view-read-injective}
 
 -- ---- room

@@ -4,82 +4,29 @@ use Prim.Native.Nat.{ℕ}
 use mathlib.Core.Path.{_≡_, refl, sym, ap, _∙_}
 use mathlib.Core.Option.{Option, none, some}
 use mathlib.Core.List.{List}
-use lib.Dec.{eqb}
 use lib.IntN.{ℤ}
-use Rattle.primitives.specs.declared.Fault.the-variants.{PastEnd, BeyondLimits, NegativeLength}
-use Rattle.primitives.specs.Pick.{pick}
 use Rattle.primitives.specs.Single.{Single}
 use Rattle.primitives.proofs.Single.{single-value, single-view, single-exactly}
-use Rattle.records.specs.declared.RecordFault.{RecordFault}
-use Rattle.records.specs.declared.RecordFault.the-variants.{Field, KeyNotUtf8, BytesLeft}
 use Rattle.records.specs.Rows.{Tables}
 use Rattle.writing.proofs.Single.{single-written, single-write-by}
-use Rattle.batches.specs.declared.RecordBatchTimestampType.{RecordBatchTimestampType}
+use Rattle.layout.specs.declared.RecordBatchTimestampType.{RecordBatchTimestampType}
+use Rattle.layout.specs.Batch.{Fields, Marker, abort, commit}
+use Rattle.layout.proofs.Single.{timestampType, type-again}
+use Rattle.opening.specs.Judgement.{Judgement, judge}
+use Rattle.opening.proofs.Single.{refusal, refusal-again}
 use Rattle.batches.specs.declared.RecordBatch.{RecordBatch}
 use Rattle.batches.specs.declared.ControlBatchRecord.{ControlBatchRecord}
 use Rattle.batches.specs.declared.ControlBatchOrRecords.{ControlBatchOrRecords}
-use Rattle.batches.specs.declared.BatchFault.{BatchFault}
 use Rattle.batches.specs.declared.BatchCheck.{BatchCheck}
 use Rattle.batches.specs.declared.BatchRead.{BatchRead}
 use Rattle.batches.specs.declared.RecordTime.{RecordTime}
-use Rattle.batches.specs.Batch.{TimestampType, createTime, logAppendTime, Fields, Marker, abort, commit}
-use Rattle.batches.specs.Judgement.{Judgement, judge}
-use Rattle.batches.specs.Answers.{batchNumberOf, Kind, ofRecords, ofMarker, Answer, viewType, viewFields, viewKind, viewCount, viewCheck, viewRead, viewTime}
-use Rattle.batches.specs.Promises.{BatchNumberPromise, TotalSizePromise, CheckPromise, ReadBy, ReadPromise, RecordTimePromise, MeasurePromise, WritePromise, Canonical, CanonicalPromise}
-
-pub single-batch-number : (f : BatchFault) → Single (BatchNumberPromise f)
-single-batch-number f = single-value _
+use Rattle.batches.specs.Answers.{Kind, ofRecords, ofMarker, Answer, viewFields, viewKind, viewCount, viewCheck, viewRead, viewTime}
+use Rattle.batches.specs.Promises.{TotalSizePromise, CheckPromise, ReadBy, ReadPromise, RecordTimePromise, MeasurePromise, WritePromise, Canonical, CanonicalPromise}
 
 pub single-total-size : (n : ℤ) → Single (TotalSizePromise n)
 single-total-size n = single-value _
 
--- ---- a fault, made from its number
-
-abbrev recordFault : ℕ → RecordFault
-recordFault n =
-    pick (eqb n 8) (Field PastEnd)
-    (pick (eqb n 9) (Field BeyondLimits)
-    (pick (eqb n 10) (Field NegativeLength)
-    (pick (eqb n 11) KeyNotUtf8 BytesLeft)))
-
-abbrev fault : ℕ → BatchFault
-fault n =
-    pick (eqb n 2) BatchFault.LengthTooSmall
-    (pick (eqb n 3) BatchFault.UnknownMagic
-    (pick (eqb n 4) BatchFault.ChecksumDiffers
-    (pick (eqb n 5) BatchFault.UnknownCodec
-    (pick (eqb n 6) BatchFault.Compressed
-    (pick (eqb n 7) BatchFault.WrongCount
-    (pick (eqb n 12) BatchFault.UnknownControl (BatchFault.Body (recordFault n))))))))
-
--- the refusal with that number, or what is answered by 1 or by 14
-abbrev refusal : {R : Type 0} → R → R → (BatchFault → R) → ℕ → R
-refusal lacking short refused n = pick (eqb n 1) lacking (pick (eqb n 14) short (refused (fault n)))
-
-refusal-again : {R : Type 0} (lacking short : R) (refused : BatchFault → R) (f : BatchFault)
-    → refusal lacking short refused (batchNumberOf f) ≡ refused f
-refusal-again lacking short refused BatchFault.LengthTooSmall = refl
-refusal-again lacking short refused BatchFault.UnknownMagic = refl
-refusal-again lacking short refused BatchFault.ChecksumDiffers = refl
-refusal-again lacking short refused BatchFault.UnknownCodec = refl
-refusal-again lacking short refused BatchFault.Compressed = refl
-refusal-again lacking short refused BatchFault.WrongCount = refl
-refusal-again lacking short refused BatchFault.UnknownControl = refl
-refusal-again lacking short refused (BatchFault.Body (Field PastEnd)) = refl
-refusal-again lacking short refused (BatchFault.Body (Field BeyondLimits)) = refl
-refusal-again lacking short refused (BatchFault.Body (Field NegativeLength)) = refl
-refusal-again lacking short refused (BatchFault.Body KeyNotUtf8) = refl
-refusal-again lacking short refused (BatchFault.Body BytesLeft) = refl
-
 -- ---- fields and kind, made from what they say
-
-abbrev timestampType : TimestampType → RecordBatchTimestampType
-timestampType createTime = RecordBatchTimestampType.CreateTime
-timestampType logAppendTime = RecordBatchTimestampType.LogAppendTime
-
-type-again : (t : RecordBatchTimestampType) → timestampType (viewType t) ≡ t
-type-again RecordBatchTimestampType.CreateTime = refl
-type-again RecordBatchTimestampType.LogAppendTime = refl
 
 abbrev batchOf : Fields → RecordBatchTimestampType → RecordBatch
 batchOf x t =

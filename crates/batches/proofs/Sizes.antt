@@ -9,10 +9,10 @@ use lib.ListN.{length, length-append}
 use Rattle.primitives.proofs.Integers.{unsigned-length, integer-length}
 use Rattle.records.specs.Format.{Record}
 use Rattle.records.proofs.Sizes.{total-sizes}
-use Rattle.batches.specs.Table.{fixedPart, uncountedFields, uncheckedFields}
-use Rattle.batches.specs.Batch.{Content, control, records, Batch}
-use Rattle.batches.specs.Format.{concat, ContentBytes, BatchBytes}
-use Rattle.batches.specs.Judgement.{Accepted, bareMarkerAt}
+use Rattle.layout.specs.Table.{fixedPart, uncountedFields, uncheckedFields}
+use Rattle.layout.specs.Batch.{Content, control, records, Batch}
+use Rattle.layout.specs.Format.{concat, ContentBytes, BatchBytes}
+use Rattle.opening.specs.Judgement.{Accepted, bareMarkerAt}
 use Rattle.batches.specs.Placed.{shownContent}
 use Rattle.batches.specs.Statements.{SizesOf, Sizes}
 use Rattle.batches.proofs.Passed.{passed}

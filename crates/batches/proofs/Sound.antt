@@ -19,28 +19,26 @@ use Rattle.primitives.specs.Stands.{Stands, Encoding}
 use Rattle.primitives.specs.Format.{Unsigned, Integer}
 use Rattle.primitives.specs.Reading.{signedBy, integerAt}
 use Rattle.primitives.proofs.Steps.{ok-not-no, and-then-ok, map-ok}
-use Rattle.primitives.proofs.Places.{joined}
+use Rattle.primitives.proofs.Places.{joined, all-left}
 use Rattle.primitives.proofs.Integers.{integer-sound}
-use Rattle.primitives.proofs.Windows.{outside, window-bytes}
+use Rattle.primitives.proofs.Windows.{outside, window-bytes, big-window}
+use Rattle.primitives.proofs.Picks.{picked, passed-over}
 use Rattle.crc32c.specs.Crc.{crc32c}
 use Rattle.records.specs.Format.{Record}
 use Rattle.records.specs.Judgement.{RecordSpans, recordsAt}
 use Rattle.records.specs.Placed.{shownRecord}
 use Rattle.records.proofs.Shows.{records-shows}
 use Rattle.records.proofs.Sound.{records-sound}
-use Rattle.batches.specs.Table.{Slot, table, uncountedFields, uncheckedFields, checkedFields}
-use Rattle.batches.specs.Batch.{Marker, abort, commit, Content, control, records, Batch}
-use Rattle.batches.specs.Format.{concat, bit, controlBit, howMany, Counts, markerType, MarkerBytes, ContentBytes, BatchBytes}
-use Rattle.batches.specs.Judgement.{Accepted, unsignedIn, numberIn, attributesIn, fieldsIn, is, contentAt, markerOf, endedAt, bareMarkerAt}
+use Rattle.layout.specs.Table.{Slot, table, uncountedFields, uncheckedFields, checkedFields}
+use Rattle.layout.specs.Batch.{Marker, abort, commit, Content, control, records, Batch}
+use Rattle.layout.specs.Format.{concat, bit, controlBit, howMany, Counts, markerType, MarkerBytes, ContentBytes, BatchBytes}
+use Rattle.opening.specs.Judgement.{Accepted, unsignedIn, numberIn, attributesIn, fieldsIn, is, contentAt, markerOf, endedAt, bareMarkerAt}
+use Rattle.opening.proofs.Tests.{Says, is-true}
 use Rattle.batches.specs.Placed.{placedContent, placedBatch, shownContent, shownBatch}
 use Rattle.batches.specs.Statements.{Sound}
 use Rattle.batches.proofs.Bits.{together}
-use Rattle.primitives.proofs.Windows.{big-window}
-use Rattle.primitives.proofs.Places.{all-left}
 use Rattle.batches.proofs.Passed.{Read, whole, passed}
-use Rattle.primitives.proofs.Picks.{picked, passed-over}
 use Rattle.batches.proofs.Pieces.{piece, pieces, piece-unsigned, piece-integer, uncounted-stand, unchecked-stand, checked-stand}
-use Rattle.batches.proofs.Tests.{Says, is-true}
 
 -- ---- a control batch's marker
 

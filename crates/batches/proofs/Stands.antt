@@ -7,16 +7,16 @@ use native.Mathlib.Omega.{arith}
 use lib.ListN.{length, length-append}
 use lib.Seq.{take-append-le}
 use Rattle.primitives.specs.Reading.{signedBy}
+use Rattle.primitives.proofs.Windows.{big-longer}
 use Rattle.records.specs.Rows.{Tables}
-use Rattle.batches.specs.Table.{Slot, table}
-use Rattle.batches.specs.Judgement.{Judged, Judgement, more, numberIn, is, below, Control, judgementOf, wholeAt, judgeWhole, judgeWith, bareMarkerAt, judge}
+use Rattle.layout.specs.Table.{Slot, table}
+use Rattle.opening.specs.Judgement.{Judged, Judgement, more, numberIn, is, below, Control, judgementOf, wholeAt, judgeWhole, judgeWith, bareMarkerAt, judge}
+use Rattle.opening.proofs.Tests.{Totals, few, low, short, unknown, lacking, there, totals, total-is}
 use Rattle.batches.specs.Answers.{viewRead, answerWithRoom, roomsOf, answerOf}
 use Rattle.batches.specs.Promises.{ReadOutcome, ReadBy}
 use Rattle.batches.specs.Demand3.{StandsWith, Stands, JudgeStandsWith, JudgeStands, CheckStands, NoRoomStandsWith, NoRoomStands}
 use Rattle.batches.proofs.Single.{single-check}
 use Rattle.batches.proofs.Rooms.{numbered, same-in-larger, same-in-as-many}
-use Rattle.primitives.proofs.Windows.{big-longer}
-use Rattle.batches.proofs.Tests.{Totals, few, low, short, unknown, lacking, there, totals, total-is}
 
 -- ---- the judgement
 

@@ -6,23 +6,25 @@ use mathlib.Core.Bool.{Bool, true, false}
 use mathlib.Core.List.{List}
 use native.Mathlib.Omega.{arith}
 use lib.ListN.{length}
+use Rattle.primitives.specs.declared.Fault.{Fault}
 use Rattle.primitives.specs.Pick.{pick}
 use Rattle.primitives.specs.Step.{Step, ok, no, mapStep}
-use Rattle.primitives.specs.declared.Fault.{Fault}
 use Rattle.records.specs.declared.RecordFault.{RecordFault}
-use Rattle.records.specs.declared.RecordsRead.{RecordsRead}
 use Rattle.records.specs.Judgement.{RecordSpans}
 use Rattle.records.specs.Rows.{headersIn, Tables, roomy, withRows}
-use Rattle.records.specs.Answers.{recordNumberOf, countsOf}
-use Rattle.records.specs.Answers as Records
-use Rattle.records.specs.Promises.{answerDue, tablesDue}
+use Rattle.records.specs.Answers.{recordNumberOf}
 use Rattle.records.proofs.Refusals.{Refuses}
+use Rattle.reading.specs.declared.RecordsRead.{RecordsRead}
+use Rattle.reading.specs.Answers.{countsOf}
+use Rattle.reading.specs.Answers as Records
+use Rattle.reading.specs.Promises.{answerDue, tablesDue}
+use Rattle.layout.specs.Batch.{records}
+use Rattle.opening.specs.Judgement.{Judgement}
+use Rattle.opening.specs.Opened.{judgedAs}
 use Rattle.batches.specs.declared.RecordBatch.{RecordBatch}
-use Rattle.batches.specs.Batch.{records}
-use Rattle.batches.specs.Judgement.{Judgement}
 use Rattle.batches.specs.Answers.{ofRecords, accepts, refuses, lacksRoom, viewFields, roomsOf, hasRoom, answerOf, tablesOf}
 use Rattle.batches.specs.Promises.{ReadBy}
-use Rattle.batches.specs.Opening.{judgedAs, ofRecordsRead}
+use Rattle.batches.specs.Reading.{ofRecordsRead}
 
 pub room-is : (first : ℕ) (rs : List RecordSpans) (t : Tables) → hasRoom (records rs) first (roomsOf t) ≡ roomy first rs t
 unfolding roomy

@@ -10,7 +10,7 @@ use native.Mathlib.Decide.{decLt}
 use borrow.Author.Tests.{not-true, not-false, eqb-true, ltb-true, lt-ltb, le-ltb, eq-eqb, ne-eqb}
 use lib.Dec.{eqb, ltb}
 use lib.IntN.{ℤ, pos, negsuc}
-use lib.ListN.{length, getD, take, drop, length-take, length-map}
+use lib.ListN.{length, getD, take, drop, length-map}
 use lib.Seq.{take-all}
 use mir.Syntax.{w8}
 use mir.Val.{Fits}
@@ -21,10 +21,9 @@ use Rattle.primitives.specs.Stands.{Stands}
 use Rattle.primitives.specs.Format.{Unsigned}
 use Rattle.primitives.specs.Reading.{big, signedBy}
 use Rattle.primitives.proofs.Integers.{signed-low, signed-high}
-use Rattle.primitives.proofs.Picks.{both-hold, picked}
+use Rattle.primitives.proofs.Picks.{both-hold}
 use Rattle.primitives.proofs.Places.{whole, all-left}
 use Rattle.primitives.proofs.Steps.{map-ok}
-use Rattle.crc32c.specs.Crc.{crc32c}
 use Rattle.records.specs.Format.{Record, RecordsBytes}
 use Rattle.records.specs.Judgement.{RecordSpans, recordsAt}
 use Rattle.records.specs.Placed.{placedRecords, shownRecord}
@@ -32,27 +31,28 @@ use Rattle.records.proofs.Complete.{records-complete}
 use Rattle.records.proofs.Shows.{records-shows}
 use Rattle.records.proofs.Sound.{records-sound}
 use Rattle.canonical.specs.Promises.{StandStrictly, CanonicalRecordsPromise}
-use Rattle.batches.specs.declared.RecordBatch.{RecordBatch}
-use Rattle.batches.specs.declared.BatchFault.{BatchFault}
-use Rattle.batches.specs.declared.Frame.{Frame}
-use Rattle.batches.specs.declared.Opened.{Opened}
-use Rattle.batches.specs.Table.{table}
-use Rattle.batches.specs.Batch.{Fields, Marker, Content, control, records, Batch}
-use Rattle.batches.specs.Format.{attributesOf, Counts, exactly, minusOne, ContentBytes, BatchBytes}
-use Rattle.batches.specs.Judgement.{Judged, more, refused, accepted, Accepted, unsignedIn, attributesIn, openedAt, contentAt, bareMarkerAt, judge}
+use Rattle.layout.specs.declared.BatchFields.{BatchFields}
+use Rattle.layout.specs.Fixed.{viewBatchFields}
+use Rattle.layout.specs.Batch.{Fields, Marker, Content, control, records, Batch}
+use Rattle.layout.specs.Format.{attributesOf, Counts, exactly, minusOne, ContentBytes, BatchBytes}
+use Rattle.layout.proofs.Flags.{timestamp-small, bit-small, control-small}
+use Rattle.opening.specs.declared.BatchFault.{BatchFault}
+use Rattle.opening.specs.declared.Opened.{Opened}
+use Rattle.opening.specs.Statements.{Inside}
+use Rattle.opening.specs.Judgement.{accepted, Accepted, contentAt, bareMarkerAt, judge}
+use Rattle.opening.specs.Opened.{KnownAt, openAt, asAccepted, judgedAs, judgedFrom}
+use Rattle.opening.specs.Answers.{viewOpened}
+use Rattle.opening.proofs.Judging.{judged-by-opening, opened-inside}
+use Rattle.opening.proofs.Tests.{opened}
+use Rattle.opening.proofs.Verdicts.{more-not-accepted, refused-not-accepted, same-accepted}
 use Rattle.batches.specs.Placed.{placedContent, placedBatch, shownBatch}
-use Rattle.batches.specs.Answers.{viewFields}
-use Rattle.batches.specs.Opening.{Known, KnownAt, fieldsBeside, openingAt, knownAt, frameAt, openBy, openAt, viewOpened, asAccepted, judgedAs, isOk, tight}
+use Rattle.batches.specs.Reading.{isOk, tight}
 use Rattle.batches.specs.Promises.{Canonical, CanonicalPromise}
-use Rattle.batches.proofs.Apart.{timestamp-small, bit-small, control-small}
 use Rattle.batches.proofs.Canonical.{canonical-strict}
 use Rattle.batches.proofs.Complete.{complete}
-use Rattle.batches.proofs.Judging.{judgedFrom, judge-opened}
 use Rattle.batches.proofs.Only.{exact-count}
 use Rattle.batches.proofs.Parts.{parts-stand}
 use Rattle.batches.proofs.Sound.{sound}
-use Rattle.batches.proofs.Tests.{Openings, opened, openings}
-use Rattle.batches.proofs.Verdicts.{more-not-accepted, refused-not-accepted, same-accepted}
 
 -- ---- the three bytes
 
@@ -168,29 +168,6 @@ module _ (s : List ℕ) (b : Batch Record) (bytes : Bytes s) where
 
 -- ---- what was opened
 
-known-from : (total : ℕ) (x : Step ℕ Known) (o : KnownAt) → knownAt total x ≡ accepted o → x ≡ ok (o .known) (o .next)
-known-from total (ok k p) o e = ap (λ (y : KnownAt). ok (y .known) (y .next)) (same-accepted e)
-known-from total (no n) o e = refused-not-accepted e
-
-opened-ends : (w : List ℕ) (at n p : ℕ) → Openings w at (ok n p) → (p ≡ at + 61) × (at + 61 ≤ length w)
-opened-ends w at n _ (opened h c t o) = (refl, h)
-
-opening-ends : (base epoch : ℤ) (w : List ℕ) (at : ℕ) {k : Known} {p : ℕ} → openingAt base epoch w at ≡ ok k p → (p ≡ at + 61) × (at + 61 ≤ length w)
-unfolding openingAt
-opening-ends base epoch w at {p = p} e =
-    let known : ℕ → Known = λ n. record { fields = fieldsBeside base epoch w at; control = attributesIn w at .control; count = n } in
-    let (_, i) = picked (eqb (unsignedIn (table .crc) w at) (crc32c (drop (at + 21) w))) (mapStep known (openedAt w at)) 4 e in
-    let (n, j, _) = map-ok known (openedAt w at) i in
-    opened-ends w at n p (subst (Openings w at) j (openings w at))
-
--- the place after the fixed fields, which are there
-open-ends : (s : List ℕ) (at : ℕ) (y : Judged Frame) (o : KnownAt) → openBy s at y ≡ accepted o → (o .next ≡ at + 61) × (at + 61 ≤ length s)
-open-ends s at (more n) o e = more-not-accepted e
-open-ends s at (refused n) o e = refused-not-accepted e
-open-ends s at (accepted x) o e =
-    let (end, within) = opening-ends _ _ (take (at + x .total) s) at (known-from (x .total) _ o e) in
-    (end, omega (arith, within, length-take (at + x .total) s))
-
 -- what is accepted had a marker or records
 judged-as : (x : Fields) (first total : ℕ) (y : Step ℕ (Content RecordSpans)) {a : Accepted} → judgedAs x first total y ≡ accepted a
     → (c : Content RecordSpans) × (p : ℕ) × (y ≡ ok c p) × (a ≡ asAccepted x first total c)
@@ -234,7 +211,7 @@ module _ (s : List ℕ) (fits : (i : ℕ) → Fits w8 (getD s i 0)) where
 
   module _ (a : Opened) (e : viewOpened a ≡ openAt s 0) where
     judged : (x : Opened) → a ≡ x → judge s ≡ judgedFrom bareMarkerAt s 0 0 (viewOpened x)
-    judged x f = judge-opened bareMarkerAt s 0 0 ∙ ap (judgedFrom bareMarkerAt s 0 0) (sym e ∙ ap viewOpened f)
+    judged x f = judged-by-opening bareMarkerAt s 0 0 ∙ ap (judgedFrom bareMarkerAt s 0 0) (sym e ∙ ap viewOpened f)
 
     pub canonical-more : (n : ℕ) → a ≡ Opened.MoreBytes n → CanonicalPromise s false
     canonical-more n f = never s (λ c. more-not-accepted (sym (judged (Opened.MoreBytes n) f) ∙ c .judged))
@@ -242,27 +219,27 @@ module _ (s : List ℕ) (fits : (i : ℕ) → Fits w8 (getD s i 0)) where
     pub canonical-refused : (h : BatchFault) → a ≡ Opened.Refused h → CanonicalPromise s false
     canonical-refused h f = never s (λ c. refused-not-accepted (sym (judged (Opened.Refused h) f) ∙ c .judged))
 
-    module _ (b : RecordBatch) (isControl : Bool) (n : ℕ) (next : Cursor) (total : ℕ) (f : a ≡ Opened.Got b isControl n next total) where
+    module _ (x : BatchFields) (isControl : Bool) (n : ℕ) (next : Cursor) (total : ℕ) (f : a ≡ Opened.Got x isControl n next total) where
       abbrev known : KnownAt
-      known = record { known = record { fields = viewFields b; control = isControl; count = n }; next = next .at; total = total }
+      known = record { known = record { fields = viewBatchFields x; control = isControl; count = n }; next = next .at; total = total }
 
-      ends : (next .at ≡ 0 + 61) × (0 + 61 ≤ length s)
-      ends = open-ends s 0 (frameAt s 0) known (sym e ∙ ap viewOpened f)
+      ends : Inside s 0 known
+      ends = opened-inside s 0 known (sym e ∙ ap viewOpened f)
 
       pub opened-fixed : 61 ≤ length s
-      opened-fixed = omega (arith, ends .1)
+      opened-fixed = omega (arith, ends .fixed, ends .end)
 
       -- the marker or the records, in the batch's window
       abbrev inside : Step ℕ (Content RecordSpans)
       inside = contentAt bareMarkerAt isControl (take (0 + total) s) n (next .at)
 
-      judged-inside : judge s ≡ judgedAs (viewFields b) 0 total inside
-      judged-inside = judged (Opened.Got b isControl n next total) f
+      judged-inside : judge s ≡ judgedAs (viewBatchFields x) 0 total inside
+      judged-inside = judged (Opened.Got x isControl n next total) f
 
       pub canonical-longer : (total ≡ length s → ⊥) → CanonicalPromise s false
       canonical-longer h =
           never s (λ c.
-          let (_, _, _, is) = judged-as (viewFields b) 0 total inside (sym judged-inside ∙ c .judged) in
+          let (_, _, _, is) = judged-as (viewBatchFields x) 0 total inside (sym judged-inside ∙ c .judged) in
           h (sym (ap (λ (x : Accepted). x .consumed) is) ∙ c .whole))
 
       module _ (all : total ≡ length s) (t : Bool) (tested : t ≡ tight s) where
@@ -287,16 +264,16 @@ module _ (s : List ℕ) (fits : (i : ℕ) → Fits w8 (getD s i 0)) where
           inside-is k h = λ i. contentAt bareMarkerAt (h i) (window i) n (next .at)
 
           abbrev accepts : Content RecordSpans → Accepted
-          accepts c = asAccepted (viewFields b) 0 total c
+          accepts c = asAccepted (viewBatchFields x) 0 total c
 
           -- what was read is what was accepted
           read-judged : (k : Bool) → isControl ≡ k → (c : Content RecordSpans) (p : ℕ) → read k ≡ ok c p → judge s ≡ accepted (accepts c)
-          read-judged k h c p r = judged-inside ∙ ap (judgedAs (viewFields b) 0 total) (inside-is k h ∙ r)
+          read-judged k h c p r = judged-inside ∙ ap (judgedAs (viewBatchFields x) 0 total) (inside-is k h ∙ r)
 
-          judged-read : (k : Bool) → isControl ≡ k → (x : Accepted) → judge s ≡ accepted x
-              → (c : Content RecordSpans) × (p : ℕ) × (read k ≡ ok c p) × (x ≡ accepts c)
-          judged-read k h x j =
-              let (c, p, r, is) = judged-as (viewFields b) 0 total inside (sym judged-inside ∙ j) in
+          judged-read : (k : Bool) → isControl ≡ k → (a : Accepted) → judge s ≡ accepted a
+              → (c : Content RecordSpans) × (p : ℕ) × (read k ≡ ok c p) × (a ≡ accepts c)
+          judged-read k h a j =
+              let (c, p, r, is) = judged-as (viewBatchFields x) 0 total inside (sym judged-inside ∙ j) in
               (c, p, sym (inside-is k h) ∙ r, is)
 
           abbrev grammar : Content RecordSpans → Type 0
@@ -334,7 +311,7 @@ module _ (s : List ℕ) (fits : (i : ℕ) → Fits w8 (getD s i 0)) where
                   let reads = ap (mapStep records) (ap (λ (k : ℕ). recordsAt s k (next .at)) (sym many) ∙ i) in
                   let g = accepted-all (accepts (records spans)) (read-judged false h (records spans) (length s) reads) all in
                   let body : x .bytes ≡ g .body
-                  = sym (all-left (x .stands)) ∙ ap (λ (p : ℕ). drop p s) (ends .0) ∙ all-left (parts-stand (whole s) g .body) in
+                  = sym (all-left (x .stands)) ∙ ap (λ (p : ℕ). drop p s) (ends .next) ∙ all-left (parts-stand (whole s) g .body) in
                   read-canonical (records spans) g (subst₂ (RecordsBytes true) body (sym shows) (x .encodes))
 
               strict : Canonical s → StandStrictly s (next .at) n
@@ -343,7 +320,7 @@ module _ (s : List ℕ) (fits : (i : ℕ) → Fits w8 (getD s i 0)) where
                   let (k, p, i, is) = judged-read false h (placedBatch 0 0 g) (complete true s 0 0 (length s) s b′ (whole s) g .0) in
                   let (spans, j, w) = map-ok records (recordsAt s n (next .at)) i in
                   let (_, _, many, _) = records-sound s n (next .at) spans p bytes-are j in
-                  let place : 0 + 61 ≡ next .at = sym (ends .0) in
+                  let place : 0 + 61 ≡ next .at = sym (ends .next) in
                   let y = parts-stand (whole s) g .body in
                   subst (λ (q : ℕ). StandStrictly s q n) place
                   (stands-strictly (b′ .content) y (g .holds) spans (ap (λ (x : Accepted). x .content) is ∙ sym w) many)

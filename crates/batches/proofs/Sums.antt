@@ -1,22 +1,22 @@
 -- Sums of signed numbers as the machine makes them: where they fit, and what they then are. By cases on the signs.
 -- Assumes nothing.
 use Prim.Native.Nat.{ℕ, zero, suc, _+_, _-_, _<_, _≤_, _^_}
-use mathlib.Core.Path.{_≡_, refl, sym, ap, _∙_, subst, subst⁻¹}
+use mathlib.Core.Path.{_≡_, refl, sym, ap, _∙_}
 use mathlib.Core.Bool.{Bool, true, false, not, false≢true}
 use mathlib.Core.Option.{none, some}
 use native.Mathlib.Omega.{arith}
 use native.Mathlib.Decide.{decLt}
 use borrow.Author.Tests.{ltb-true, leb-false, lt-ltb, le-ltb, le-leb, lt-leb, not-true, not-false}
-use lib.Dec.{T, leb, ltb, lit≤}
-use lib.IntN.{ℤ, pos, negsuc, subℕ, _+ℤ_, _-ℤ_, natAbs}
-use lib.Signed.{mag, leZ, nonNeg}
+use lib.Dec.{leb, ltb, lit≤}
+use lib.IntN.{ℤ, pos, negsuc, subℕ, _+ℤ_, _-ℤ_}
+use lib.Signed.{leZ}
 use mir.Syntax.{w32, w64}
-use mir.Val.{SFits, Fits, toZ, ofZ}
+use mir.Val.{SFits, toZ, ofZ}
 use mir.ValLaws.{toZ-ofZ}
 use Rattle.primitives.specs.Pick.{pick}
 use Rattle.primitives.proofs.Signs.{widen-fits, widen-back}
-use Rattle.batches.specs.Table.{uncounted}
-use Rattle.batches.specs.Batch.{Fields}
+use Rattle.layout.specs.Table.{uncounted}
+use Rattle.layout.specs.Batch.{Fields}
 use Rattle.batches.specs.Time.{in64, recordTime}
 
 -- ---- 12 and batchLength
@@ -41,21 +41,6 @@ module _ (n : ℤ) (f : SFits w32 n) where
 
   pub total-back : toZ w64 (ofZ w64 (pos uncounted +ℤ toZ w64 (ofZ w64 (toZ w32 (ofZ w32 n))))) ≡ pos uncounted +ℤ n
   total-back = rw wide-is (toZ-ofZ w64 (pos uncounted +ℤ n) (sum-fits uncounted (lit≤ tt) n f))
-
--- the sum is a natural number where batchLength is one
-pub record Natural (y : ℤ) (n : ℕ) : Type 0 where
-  pub nonneg : T (nonNeg y)
-  pub fits : Fits w64 (natAbs y)
-  pub is : natAbs y ≡ n
-
-pub total-natural : (z : ℤ) → SFits w32 z → (n : ℕ) → z ≡ pos n → (r : ℤ) → r ≡ pos uncounted +ℤ toZ w32 (ofZ w32 z)
-    → Natural (toZ w64 (ofZ w64 r)) (12 + n)
-total-natural z f n e r g =
-    let bound : n < 2 ^ 31 = subst (λ (y : ℤ). mag y < 2 ^ 31) e (f .sfits) in
-    let sum : r ≡ pos (12 + n) = g ∙ ap (λ (y : ℤ). pos uncounted +ℤ y) (toZ-ofZ w32 z f ∙ e) in
-    let back : toZ w64 (ofZ w64 (pos (12 + n))) ≡ pos (12 + n) = toZ-ofZ w64 (pos (12 + n)) (record { sfits = omega arith }) in
-    subst⁻¹ (λ (y : ℤ). Natural y (12 + n)) (ap (λ (y : ℤ). toZ w64 (ofZ w64 y)) sum ∙ back)
-    (record { nonneg = tt; fits = record { fits = omega arith }; is = refl })
 
 -- ---- a sum of two numbers of 64 bits
 

@@ -9,12 +9,12 @@ use lib.ListN.{length}
 use Rattle.primitives.specs.Pick.{pick}
 use Rattle.primitives.proofs.Places.{in-front, whole, no-rest}
 use Rattle.records.specs.Format.{Record}
-use Rattle.batches.specs.Batch.{Batch}
-use Rattle.batches.specs.Judgement.{more, refused, accepted, Accepted, Judgement, judge}
+use Rattle.layout.specs.Batch.{Batch}
+use Rattle.opening.specs.Judgement.{more, refused, accepted, Accepted, Judgement, judge}
+use Rattle.opening.proofs.Verdicts.{more-not-refused, refused-not-accepted}
 use Rattle.batches.specs.Placed.{shownBatch}
 use Rattle.batches.specs.Answers.{Answer, Standing, Rooms, roomsOf, answerOf, hasRoom, acceptedAs, lacksRoom}
 use Rattle.batches.specs.Statements.{Unambiguous, Never}
-use Rattle.batches.proofs.Verdicts.{more-not-refused, refused-not-accepted}
 use Rattle.batches.proofs.Complete.{complete}
 use Rattle.batches.proofs.Stands.{judge-stands}
 

@@ -16,20 +16,20 @@ use Rattle.primitives.specs.Step.{Step, ok, no}
 use Rattle.primitives.proofs.Refusing.{RefusedBy, map-refused}
 use Rattle.records.specs.Judgement.{RecordSpans}
 use Rattle.records.specs.Rows.{Tables}
-use Rattle.writing.specs.declared.WriteFault.{WriteFault}
+use Rattle.asking.specs.declared.WriteFault.{WriteFault}
+use Rattle.asking.specs.Asked.{RowPlace, recordsAsked}
+use Rattle.asking.proofs.Refusals.{RowFault, records-refused}
 use Rattle.writing.specs.declared.Written.{Written as WrittenAnswer}
-use Rattle.writing.specs.Asked.{RowPlace, recordsAsked}
 use Rattle.writing.specs.Answers.{Answer, writes, refuses, viewWritten, Given, given, refused, measured, over}
 use Rattle.writing.specs.Promises.{WriteOutcome, WriteBy}
-use Rattle.writing.proofs.Refusals.{RowFault, records-refused}
 use Rattle.writing.proofs.Single.{single-written}
-use Rattle.batches.specs.Batch.{Fields, Content, records}
+use Rattle.writing.proofs.Outcomes.{Numbered, numbers, put}
+use Rattle.layout.specs.Batch.{Fields, Content, records}
 use Rattle.batches.specs.Answers.{viewFields}
 use Rattle.batches.specs.Writer.{batchLengthOf, writtenBatch, Wanted, marker, rows, viewWanted, contentAsked, mostLength, batchGivenBy, batchGiven}
 use Rattle.batches.specs.Rewriting.{Request, WrittenAs, Written, WriteUntouched, WriteMeasures, MarkerAlone}
 use Rattle.batches.proofs.Encodes.{shows}
 use Rattle.batches.proofs.Given.{given-for, given-encodes}
-use Rattle.batches.proofs.Outcomes.{Numbered, numbers, put}
 
 -- ---- a refusal has a number of its own
 

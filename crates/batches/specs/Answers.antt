@@ -8,30 +8,18 @@ use lib.ListN.{length}
 use Rattle.primitives.specs.Pick.{pick}
 use Rattle.records.specs.Judgement.{RecordSpans}
 use Rattle.records.specs.Rows.{headersIn, Tables, withRows}
-use Rattle.records.specs.Answers.{recordNumberOf}
-use Rattle.batches.specs.declared.RecordBatchTimestampType.{RecordBatchTimestampType}
+use Rattle.layout.specs.Batch.{Fields, Marker, abort, commit, Content, control, records}
+use Rattle.layout.specs.Fixed.{viewType}
+use Rattle.opening.specs.Answers.{batchNumberOf}
+use Rattle.opening.specs.Judgement.{Judgement, more, refused, accepted, Accepted}
 use Rattle.batches.specs.declared.RecordBatch.{RecordBatch}
 use Rattle.batches.specs.declared.ControlBatchRecord.{ControlBatchRecord}
 use Rattle.batches.specs.declared.ControlBatchOrRecords.{ControlBatchOrRecords}
-use Rattle.batches.specs.declared.BatchFault.{BatchFault}
 use Rattle.batches.specs.declared.BatchCheck.{BatchCheck}
 use Rattle.batches.specs.declared.BatchRead.{BatchRead}
 use Rattle.batches.specs.declared.RecordTime.{RecordTime}
-use Rattle.batches.specs.Batch.{TimestampType, createTime, logAppendTime, Fields, Marker, abort, commit, Content, control, records}
-use Rattle.batches.specs.Judgement.{Judgement, more, refused, accepted, Accepted}
 
 -- ---- the reader's numbers
-
--- document 01, Reader's numbers
-abbrev pub batchNumberOf : BatchFault → ℕ
-batchNumberOf BatchFault.LengthTooSmall = 2
-batchNumberOf BatchFault.UnknownMagic = 3
-batchNumberOf BatchFault.ChecksumDiffers = 4
-batchNumberOf BatchFault.UnknownCodec = 5
-batchNumberOf BatchFault.Compressed = 6
-batchNumberOf BatchFault.WrongCount = 7
-batchNumberOf BatchFault.UnknownControl = 12
-batchNumberOf (BatchFault.Body f) = recordNumberOf f
 
 -- the numbers of refusals that no later byte and no other table can change
 abbrev pub Standing : ℕ → Type 0
@@ -66,10 +54,6 @@ abbrev pub lacksRoom : ℕ → ℕ → Answer
 lacksRoom n m = record { number = 14; fields = none; kind = none; records = n; headers = m; bytes = 0 }
 
 -- ---- what the enums say
-
-abbrev pub viewType : RecordBatchTimestampType → TimestampType
-viewType RecordBatchTimestampType.CreateTime = createTime
-viewType RecordBatchTimestampType.LogAppendTime = logAppendTime
 
 abbrev pub viewFields : RecordBatch → Fields
 viewFields b =

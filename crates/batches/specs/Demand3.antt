@@ -21,11 +21,11 @@ use Rattle.records.specs.Judgement.{RecordSpans}
 use Rattle.records.specs.Rows.{Tables}
 use Rattle.writing.specs.declared.Written.{Written}
 use Rattle.writing.specs.Promises.{WriteOutcome}
+use Rattle.layout.specs.Table.{table}
+use Rattle.layout.specs.Batch.{Content}
+use Rattle.opening.specs.Judgement.{more, refused, accepted, Accepted, Judgement, numberIn, Control, judgeWith, judge}
 use Rattle.batches.specs.declared.BatchCheck.{BatchCheck}
 use Rattle.batches.specs.declared.BatchRead.{BatchRead}
-use Rattle.batches.specs.Table.{table}
-use Rattle.batches.specs.Batch.{Content}
-use Rattle.batches.specs.Judgement.{more, refused, accepted, Accepted, Judgement, numberIn, Control, judgeWith, judge}
 use Rattle.batches.specs.Placed.{shownContent}
 use Rattle.batches.specs.Answers.{viewFields, viewCheck, viewRead, recordsIn, headersOf, acceptedAs, answerWithRoom, roomsOf, hasRoom, stored}
 use Rattle.batches.specs.Promises.{CheckPromise, ReadOutcome, ReadBy, ReadPromise}

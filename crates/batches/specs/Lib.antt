@@ -1,14 +1,9 @@
-pub mod Table
-pub mod Batch
-pub mod Format
-pub mod Judgement
 pub mod Placed
 pub mod Time
 pub mod Answers
 pub mod Writer
-pub mod Fixed
 pub mod Promises
 pub mod Statements
 pub mod Rewriting
 pub mod Demand3
-pub mod Opening
+pub mod Reading

@@ -6,10 +6,10 @@ use lib.ListN.{length}
 use Rattle.records.specs.Format.{Record}
 use Rattle.records.specs.Judgement.{RecordSpans}
 use Rattle.records.specs.Placed.{placedRecords, shownRecords}
-use Rattle.batches.specs.Table.{fixedPart}
-use Rattle.batches.specs.Batch.{Content, control, records, Batch}
-use Rattle.batches.specs.Format.{ContentBytes, BatchBytes}
-use Rattle.batches.specs.Judgement.{Accepted}
+use Rattle.layout.specs.Table.{fixedPart}
+use Rattle.layout.specs.Batch.{Content, control, records, Batch}
+use Rattle.layout.specs.Format.{ContentBytes, BatchBytes}
+use Rattle.opening.specs.Judgement.{Accepted}
 
 abbrev pub placedContent : (strict : Bool) (bs : List ℕ) (c : Content Record) → ℕ → ContentBytes strict bs c → Content RecordSpans
 placedContent strict bs (control m) p g = control m

@@ -15,17 +15,17 @@ use Rattle.primitives.specs.Format.{InBits}
 use Rattle.records.specs.Format.{Record}
 use Rattle.records.specs.Judgement.{RecordSpans}
 use Rattle.records.specs.Rows.{Tables}
-use Rattle.writing.specs.declared.WriteFault.{WriteFault}
+use Rattle.asking.specs.declared.WriteFault.{WriteFault}
+use Rattle.asking.specs.Asked.{RowPlace}
 use Rattle.writing.specs.declared.Written.{Written as WrittenAnswer}
-use Rattle.writing.specs.Asked.{RowPlace}
 use Rattle.writing.specs.Answers.{given, viewWritten}
 use Rattle.writing.specs.Promises.{WriteOutcome}
+use Rattle.layout.specs.Table.{table}
+use Rattle.layout.specs.Batch.{Fields, Marker, Content, Batch}
+use Rattle.layout.specs.Format.{BatchBytes}
 use Rattle.batches.specs.declared.RecordBatch.{RecordBatch}
 use Rattle.batches.specs.declared.ControlBatchOrRecords.{ControlBatchOrRecords}
 use Rattle.batches.specs.declared.BatchRead.{BatchRead}
-use Rattle.batches.specs.Table.{table}
-use Rattle.batches.specs.Batch.{Fields, Marker, Content, Batch}
-use Rattle.batches.specs.Format.{BatchBytes}
 use Rattle.batches.specs.Placed.{shownContent}
 use Rattle.batches.specs.Answers.{viewFields}
 use Rattle.batches.specs.Writer.{marker, viewWanted, contentAsked, batchGiven}

@@ -4,7 +4,7 @@ use Prim.Native.Nat.{ℕ, suc, _+_, _<_, _≤_}
 use mathlib.Core.Path.{_≡_}
 use mathlib.Core.Bool.{Bool, true, false}
 use mathlib.Core.Logic.{_⊎_}
-use mathlib.Core.List.{List, [], _∷_, _++_, map}
+use mathlib.Core.List.{List, [], _++_, map}
 use lib.IntN.{ℤ, pos, negsuc}
 use lib.ListN.{length, take, drop}
 use Rattle.primitives.specs.Bytes.{Bytes}
@@ -17,27 +17,14 @@ use Rattle.records.specs.Format.{Record}
 use Rattle.records.specs.Judgement.{RecordSpans}
 use Rattle.records.specs.Rows.{Tables}
 use Rattle.records.specs.Statements.{sizes, total, movedRecord}
+use Rattle.layout.specs.Table.{table}
+use Rattle.layout.specs.Batch.{Content, control, records, Batch}
+use Rattle.layout.specs.Format.{ContentBytes, BatchBytes}
+use Rattle.opening.specs.Judgement.{more, refused, accepted, Accepted, Judgement, unsignedIn, numberIn, attributesIn, Control, judgeWith, bareMarkerAt, judgeAt, judge}
 use Rattle.batches.specs.declared.BatchCheck.{BatchCheck}
-use Rattle.batches.specs.Table.{Slot, table, uncounted, unchecked, fixedChecked, fixedPart, uncountedFields, uncheckedFields, checkedFields}
-use Rattle.batches.specs.Batch.{Content, control, records, Batch}
-use Rattle.batches.specs.Format.{ContentBytes, BatchBytes}
-use Rattle.batches.specs.Judgement.{more, refused, accepted, Accepted, Judgement, unsignedIn, numberIn, attributesIn, Control, judgeWith, bareMarkerAt, judgeAt, judge}
 use Rattle.batches.specs.Placed.{placedBatch, shownBatch}
 use Rattle.batches.specs.Answers.{Standing, viewCheck, viewRead}
 use Rattle.batches.specs.Promises.{CheckPromise, ReadOutcome, ReadPromise}
-
--- ---- the table of fixed fields
-
--- the fields follow each other from a place up to another
-unfoldable pub RunOn : ℕ → List Slot → ℕ → Type 0
-RunOn p [] q = p ≡ q
-RunOn p (f ∷ rest) q = (f .place ≡ p) × RunOn (p + f .bytes) rest q
-
--- Each field stands where the one before it ends, and the sizes 12, 9, 40 and 61 are those of their parts.
-abbrev pub TableRunsOn : Type 0
-TableRunsOn =
-    RunOn 0 (uncountedFields table) uncounted × RunOn uncounted (uncheckedFields table) (uncounted + unchecked)
-    × RunOn (uncounted + unchecked) (checkedFields table) fixedPart × (uncounted + unchecked + fixedChecked ≡ fixedPart)
 
 -- ---- the judgement accepts exactly the format's batches
 

@@ -5,7 +5,7 @@ use mathlib.Core.Option.{Option, none, some}
 use lib.Dec.{ltb}
 use lib.IntN.{ℤ, pos, negsuc, _+ℤ_}
 use Rattle.primitives.specs.Pick.{pick}
-use Rattle.batches.specs.Batch.{Fields}
+use Rattle.layout.specs.Batch.{Fields}
 
 -- a signed number of 64 bits: from -2^63 to 2^63 - 1
 abbrev pub in64 : ℤ → Bool

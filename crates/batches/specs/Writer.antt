@@ -4,29 +4,27 @@ use Prim.Native.Nat.{ℕ, _+_, _*_}
 use mathlib.Core.Bool.{true}
 use mathlib.Core.List.{List, [], _++_}
 use lib.Dec.{eqb, leb}
-use lib.IntN.{ℤ, pos}
+use lib.IntN.{pos}
 use lib.ListN.{length, replicate}
 use Rattle.primitives.specs.Pick.{pick}
 use Rattle.primitives.specs.Step.{Step, ok, no, mapStep}
-use Rattle.primitives.specs.Format.{bigEndian, complement}
+use Rattle.primitives.specs.Format.{bigEndian}
 use Rattle.crc32c.specs.Crc.{crc32c}
 use Rattle.records.specs.Format.{Record}
 use Rattle.records.specs.Written.{writtenRecords}
 use Rattle.records.specs.Judgement.{RecordSpans}
 use Rattle.records.specs.Rows.{Tables, tables, headersIn, withRows}
-use Rattle.writing.specs.Asked.{RowPlace, rowPlace, recordsAsked}
+use Rattle.asking.specs.Asked.{RowPlace, rowPlace, recordsAsked}
 use Rattle.writing.specs.Answers.{Given, given, refused}
+use Rattle.layout.specs.Fixed.{signed}
+use Rattle.layout.specs.Table.{FixedFields, table, unchecked, uncountedFields, uncheckedFields, checkedFields}
+use Rattle.layout.specs.Batch.{Fields, Marker, Content, control, records, Batch}
+use Rattle.layout.specs.Format.{concat, attributesOf, howMany, markerType}
 use Rattle.batches.specs.declared.ControlBatchOrRecords.{ControlBatchOrRecords}
-use Rattle.batches.specs.Table.{FixedFields, table, unchecked, uncountedFields, uncheckedFields, checkedFields}
-use Rattle.batches.specs.Batch.{Fields, Marker, Content, control, records, Batch}
-use Rattle.batches.specs.Format.{concat, attributesOf, howMany, markerType}
 use Rattle.batches.specs.Placed.{shownContent}
 use Rattle.batches.specs.Answers.{viewMarker}
 
 -- ---- the bytes of a batch
-
-abbrev pub signed : ℕ → ℤ → List ℕ
-signed n z = bigEndian n (complement (8 * n) z)
 
 -- Exception, as in the Rust: a marker's version and type stand alone.
 unfoldable pub writtenContent : Content Record → List ℕ

@@ -1,7 +1,6 @@
 -- Where records stand strictly, the bytes are those that are written for them. Assumes nothing.
-use mathlib.Core.Path.{_≡_, refl, ap, _∙_}
-use mathlib.Core.List.{List, _++_, append-nil}
-use lib.ListN.{length, drop}
+use mathlib.Core.Path.{refl, ap, _∙_}
+use mathlib.Core.List.{_++_, append-nil}
 use lib.Seq.{drop-length}
 use Rattle.records.proofs.Written.{run-written}
 use Rattle.canonical.specs.Statements.{CanonicalWritten}

@@ -1,5 +1,4 @@
 pub mod CanonicalBytes
-mod Measures
 pub mod Single
 mod SizeSteps
 mod Strict

@@ -2,24 +2,17 @@
 -- of its parts is the whole sum stopped there. The premises have the form in which a proof finds them. Assumes nothing.
 use Prim.Native.Nat.{ℕ, _+_, _-_, _^_, _≤_, _<_, min}
 use mathlib.Core.Path.{_≡_, refl, sym, ap, _∙_}
-use mathlib.Core.Bool.{true, false}
 use mathlib.Core.Option.{Option, none, some}
 use mathlib.Core.List.{List, [], _∷_}
 use native.Mathlib.Omega.{arith}
-use lib.IntN.{ℤ, pos, negsuc, natAbs}
-use lib.ListN.{length}
-use lib.Signed.{leZ}
+use lib.IntN.{ℤ, pos}
 use mir.Syntax.{w64}
 use mir.Val.{SFits, toZ, ofZ}
-use mir.ValLaws.{toZ-ofZ, toZ-pos}
 use Rattle.primitives.specs.declared.Cursor.{Cursor}
-use Rattle.primitives.specs.declared.Encoded.{Encoded}
 use Rattle.primitives.specs.declared.Fault.{Fault}
-use Rattle.primitives.specs.Format.{shortest}
 use Rattle.primitives.specs.Reading.{Span}
 use Rattle.primitives.specs.Step.{Step, ok, no, mapStep, times}
-use Rattle.primitives.specs.Answers.{numberOf, inTen}
-use Rattle.primitives.proofs.Signs.{nonnegative, negative}
+use Rattle.primitives.specs.Answers.{numberOf}
 use Rattle.primitives.proofs.Steps.{map-ok, map-no, times-again, times-stop, times-done, times-count}
 use Rattle.records.specs.declared.RecordFault.{RecordFault}
 use Rattle.records.specs.declared.RecordHeader.{RecordHeader}
@@ -29,55 +22,20 @@ use Rattle.records.specs.declared.RecordRead.{RecordRead}
 use Rattle.records.specs.Judgement.{HeaderSpans, Head, headerAt, headAt, fieldsAt}
 use Rattle.records.specs.Rows.{spanRow, headerRow}
 use Rattle.records.specs.Answers.{recordNumberOf, viewHeader, Heading, headingOf, viewRecord}
+use Rattle.sizes.specs.Promises.{NumberSizePromise}
+use Rattle.sizes.specs.Sizes.{spanSize, placeSize, headSize, lengthIn, headersSize, fieldsSize, cap}
+use Rattle.sizes.proofs.Steps.{number-back, count-back, place-back}
 use Rattle.canonical.specs.declared.SizeRead.{SizeRead}
-use Rattle.canonical.specs.Tight.{NumberSize, cap, spanSize, placeSize, headSize, lengthIn, headersSize, recordSize, headersOnto, recordCapped, viewSize}
-use Rattle.canonical.proofs.Measures.{shortest-small}
-
--- ---- numbers, and bytes after their length
-
-pub number-got : (z : ℤ) (e : Encoded) → SFits w64 z → e ≡ inTen (shortest (toZ w64 (ofZ w64 z))) → NumberSize z (e .len)
-number-got z e fits f =
-    let is = ap (λ (x : Encoded). x .len) f ∙ ap (λ (n : ℤ). length (shortest n)) (toZ-ofZ w64 z fits) in
-    record { is = is; small = omega (arith, is, shortest-small z) }
-
-number-back : (z : ℤ) (r : ℕ) → SFits w64 z → NumberSize (toZ w64 (ofZ w64 z)) r → r ≡ length (shortest z)
-number-back z r fits e = e .is ∙ ap (λ (n : ℤ). length (shortest n)) (toZ-ofZ w64 z fits)
-
--- a length or a count, which is not negative
-pub count-back : (n r : ℕ) → n < 2 ^ 32 → NumberSize (toZ w64 n) r → r ≡ length (shortest (pos n))
-count-back n r small e = e .is ∙ ap (λ (z : ℤ). length (shortest z)) (toZ-pos w64 n (omega arith))
-
-pub span-stops : (len : ℕ) → 2147483648 ≤ len → 2147483648 ≡ min (spanSize len) cap
-unfolding spanSize
-span-stops len h = omega arith
-
-pub span-got : (len n r : ℕ) → len < 2147483648 → NumberSize (toZ w64 len) n → r ≡ min (n + len) cap → r ≡ min (spanSize len) cap
-unfolding spanSize
-span-got len n r h e f = omega (arith, count-back len n (omega arith) e)
-
-pub place-got : (z : ℤ) (r : ℕ) → SFits w64 z → leZ (pos 0) (toZ w64 (ofZ w64 z)) ≡ true
-    → r ≡ min (spanSize (natAbs (toZ w64 (ofZ w64 z)))) cap → r ≡ min (placeSize z) cap
-place-got z r fits t e = e ∙ ap (λ (n : ℤ). min (placeSize n) cap) (nonnegative w64 z fits t .is)
-
-null-size : (z : ℤ) (k : ℕ) → negsuc k ≡ z → placeSize z ≡ length (shortest z)
-null-size z k e = rw (← e)
-
-pub place-null : (z : ℤ) (r : ℕ) → SFits w64 z → leZ (pos 0) (toZ w64 (ofZ w64 z)) ≡ false → NumberSize (toZ w64 (ofZ w64 z)) r
-    → r ≡ min (placeSize z) cap
-place-null z r fits t e =
-    omega (arith, number-back z r fits e, null-size z _ (negative w64 z fits t .is), e .small)
+use Rattle.canonical.specs.Tight.{headersOnto, fieldsCapped, viewSize}
 
 -- ---- a header, and what a record has before its headers
-
-place-back : (z : ℤ) (r : ℕ) → SFits w64 z → r ≡ min (placeSize (toZ w64 (ofZ w64 z))) cap → r ≡ min (placeSize z) cap
-place-back z r fits e = e ∙ ap (λ (n : ℤ). min (placeSize n) cap) (toZ-ofZ w64 z fits)
 
 pub two-places : (k v : ℤ) (a b r : ℕ) → SFits w64 k → SFits w64 v → a ≡ min (placeSize (toZ w64 (ofZ w64 k))) cap
     → b ≡ min (placeSize (toZ w64 (ofZ w64 v))) cap → r ≡ min (a + b) cap → r ≡ min (placeSize k + placeSize v) cap
 two-places k v a b r f g e e′ h = omega (arith, place-back k a f e, place-back v b g e′)
 
-pub head-got : (t o k v : ℤ) (n x y z a b r : ℕ) → SFits w64 t → SFits w64 o → SFits w64 k → SFits w64 v → n < 2 ^ 32
-    → NumberSize (toZ w64 (ofZ w64 t)) x → NumberSize (toZ w64 (ofZ w64 o)) y → NumberSize (toZ w64 n) z
+pub head-got : (t o k v : ℤ) (n x y z a b r : ℕ) → SFits w64 t → SFits w64 o → SFits w64 k → SFits w64 v → n < 2 ^ 63
+    → NumberSizePromise (toZ w64 (ofZ w64 t)) x → NumberSizePromise (toZ w64 (ofZ w64 o)) y → NumberSizePromise (toZ w64 n) z
     → a ≡ min (placeSize (toZ w64 (ofZ w64 k))) cap → b ≡ min (placeSize (toZ w64 (ofZ w64 v))) cap → r ≡ min (1 + (x + y + z) + a + b) cap
     → r ≡ min (headSize t o k v n) cap
 unfolding headSize
@@ -133,8 +91,8 @@ span-row (some x) = refl
 fields-are : (s : List ℕ) (at : ℕ) (h : Head) (p : ℕ) → headAt s at ≡ ok h p → (hs : List HeaderSpans) (q : ℕ)
     → times (headerAt s) (h .count) p ≡ ok hs q → (n : ℕ)
     → n ≡ min (headSize (h .deltas .timestamp) (h .deltas .offset) (lengthIn (h .key)) (lengthIn (h .value)) (h .count) + headersSize hs) cap
-    → ok n q ≡ mapStep recordCapped (fieldsAt s at)
-unfolding fieldsAt recordSize
+    → ok n q ≡ mapStep fieldsCapped (fieldsAt s at)
+unfolding fieldsAt fieldsSize
 fields-are s at h p e hs q is n w =
     let count = sym (times-count (headerAt s) (h .count) p is) in
     rw (e, is)
@@ -142,7 +100,7 @@ fields-are s at h p e hs q is n w =
     ∙ ap (λ (k : ℕ). min (headSize (h .deltas .timestamp) (h .deltas .offset) (lengthIn (h .key)) (lengthIn (h .value)) k + headersSize hs) cap) count))
 
 module _ (s : List ℕ) (at : ℕ) (a : RecordRead) (e : viewRecord a ≡ mapStep headingOf (headAt s at)) where
-  pub fields-no-head : (f : Fault) → a ≡ RecordRead.Refused f → no (numberOf f) ≡ mapStep recordCapped (fieldsAt s at)
+  pub fields-no-head : (f : Fault) → a ≡ RecordRead.Refused f → no (numberOf f) ≡ mapStep fieldsCapped (fieldsAt s at)
   unfolding fieldsAt
   fields-no-head f g = rw (map-no headingOf (headAt s at) (sym e ∙ ap viewRecord g))
 
@@ -172,7 +130,7 @@ module _ (s : List ℕ) (at : ℕ) (a : RecordRead) (e : viewRecord a ≡ mapSte
         }
 
     module _ (b : SizeRead) (e′ : viewSize b ≡ mapStep (headersOnto 0) (times (headerAt s) (r .headers) (next .at))) where
-      pub fields-no-headers : (g : RecordFault) → b ≡ SizeRead.Refused g → no (recordNumberOf g) ≡ mapStep recordCapped (fieldsAt s at)
+      pub fields-no-headers : (g : RecordFault) → b ≡ SizeRead.Refused g → no (recordNumberOf g) ≡ mapStep fieldsCapped (fieldsAt s at)
       unfolding fieldsAt
       fields-no-headers g h =
           let refused = map-no (headersOnto 0) (times (headerAt s) (r .headers) (next .at)) (sym e′ ∙ ap viewSize h) in
@@ -180,7 +138,7 @@ module _ (s : List ℕ) (at : ℕ) (a : RecordRead) (e : viewRecord a ≡ mapSte
 
       pub fields-got : (n : ℕ) (end : Cursor) (head whole : ℕ) → b ≡ SizeRead.Of n end
           → head ≡ min (headSize (r .deltas .timestamp) (r .deltas .offset) (r .key .len) (r .value .len) (r .headers)) cap
-          → whole ≡ min (head + n) cap → ok whole (end .at) ≡ mapStep recordCapped (fieldsAt s at)
+          → whole ≡ min (head + n) cap → ok whole (end .at) ≡ mapStep fieldsCapped (fieldsAt s at)
       fields-got n end head whole g h w =
           let d = head-is in
           let (hs, was, size) = map-ok (headersOnto 0) (times (headerAt s) (r .headers) (next .at)) (sym e′ ∙ ap viewSize g) in

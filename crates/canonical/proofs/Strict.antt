@@ -28,8 +28,9 @@ use Rattle.records.proofs.Parts.{size-stands, sized-stands, fields-stand}
 use Rattle.records.proofs.Shortest.{record-tight}
 use Rattle.records.proofs.Sound.{record-sound}
 use Rattle.records.proofs.Written.{attributes-written, fields-written}
-use Rattle.canonical.specs.Tight.{recordSize, recordCapped}
-use Rattle.canonical.proofs.Measures.{fields-size}
+use Rattle.sizes.specs.Sizes.{fieldsSize}
+use Rattle.sizes.proofs.Placed.{placed-sized}
+use Rattle.canonical.specs.Tight.{fieldsCapped}
 
 -- the tests: at p the length n is read up to m, and n bytes of fields follow
 pub record Passes (s : List ℕ) (p n m : ℕ) (r : RecordSpans) : Type 0 where
@@ -37,7 +38,7 @@ pub record Passes (s : List ℕ) (p n m : ℕ) (r : RecordSpans) : Type 0 where
   pub short : p + length (shortest (pos n)) ≡ m
   pub unused : getD s m 0 ≡ 0
   pub fields : fieldsAt (take (m + n) s) m ≡ ok r (m + n)
-  pub size : recordCapped r ≡ n
+  pub size : fieldsCapped r ≡ n
 
 -- ---- what passes stands strictly
 
@@ -57,7 +58,7 @@ module _ {s : List ℕ} {p n m : ℕ} {r : RecordSpans} (t : Passes s p n m r) w
     as-written : length (writtenFields a) ≡ n
     as-written =
         let (is, _) = length-there in
-        let size = ap recordSize placed ∙ fields-size _ (g .holds) in
+        let size = ap fieldsSize placed ∙ placed-sized _ _ _ _ (g .holds) in
         omega (arith, size, t .size, g .sized .sizes .fits)
 
     no-attributes : g .holds .attribute ≡ pos 0
@@ -109,7 +110,7 @@ strictly-passes {s} {p} {a = a} e =
     let z = inside (p + length (sized .size) + length (g .fields)) y (omega (arith, y .end)) in
     let written = attributes-written (g .holds .attributes) (g .holds .attribute) (g .holds .attributed) (g .holds .unused) in
     let first = subst (Stands s _ _) written (fields-stand y (g .holds) .attributes) in
-    let size = fields-size (p + length (sized .size)) (g .holds) ∙ ap length (sym (fields-written (g .fields) a (g .holds))) in
+    let size = placed-sized _ _ _ (p + length (sized .size)) (g .holds) ∙ ap length (sym (fields-written (g .fields) a (g .holds))) in
     record {
       n = length (g .fields);
       m = p + length (sized .size);

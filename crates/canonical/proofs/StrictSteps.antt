@@ -24,11 +24,12 @@ use Rattle.records.specs.Judgement.{RecordSpans, countAt, fieldsAt}
 use Rattle.records.specs.Answers.{viewCount}
 use Rattle.records.proofs.Complete.{record-complete}
 use Rattle.records.proofs.RecordMoves.{count-moves}
+use Rattle.sizes.specs.Promises.{NumberSizePromise}
+use Rattle.sizes.proofs.Steps.{count-back}
 use Rattle.canonical.specs.declared.StrictRead.{StrictRead}
 use Rattle.canonical.specs.declared.SizeRead.{SizeRead}
 use Rattle.canonical.specs.Promises.{StandStrictly}
-use Rattle.canonical.specs.Tight.{NumberSize, recordCapped, viewSize, Strictly}
-use Rattle.canonical.proofs.SizeSteps.{count-back}
+use Rattle.canonical.specs.Tight.{fieldsCapped, viewSize, Strictly}
 use Rattle.canonical.proofs.Strict.{Passes, passes-strictly, strictly-passes}
 
 -- ---- a record
@@ -62,7 +63,7 @@ module _ (s : List ℕ) (at : ℕ) (a : CountRead) (e : viewCount a ≡ countAt 
           within = omega (arith, size, place, t .within);
         }
 
-    pub long-length : (k : ℕ) → NumberSize (toZ w64 n) k → n < 2 ^ 32 → (at + k ≡ start .at → ⊥) → Strictly s at StrictRead.Refused
+    pub long-length : (k : ℕ) → NumberSizePromise (toZ w64 n) k → n < 2 ^ 63 → (at + k ≡ start .at → ⊥) → Strictly s at StrictRead.Refused
     long-length k size small h q r x = h (ap (λ (m : ℕ). at + m) (count-back n k small size) ∙ strict x .tests .short)
 
     pub nothing-left : length s ≤ start .at → Strictly s at StrictRead.Refused
@@ -74,15 +75,15 @@ module _ (s : List ℕ) (at : ℕ) (a : CountRead) (e : viewCount a ≡ countAt 
     pub past-end : length s < start .at + n → Strictly s at StrictRead.Refused
     past-end h q r x = omega (arith, strict x .within)
 
-    module _ (b : SizeRead) (e′ : viewSize b ≡ mapStep recordCapped (fieldsAt (take (start .at + n) s) (start .at))) where
+    module _ (b : SizeRead) (e′ : viewSize b ≡ mapStep fieldsCapped (fieldsAt (take (start .at + n) s) (start .at))) where
       pub no-fields : (g : RecordFault) → b ≡ SizeRead.Refused g → Strictly s at StrictRead.Refused
       no-fields g h q r x =
-          ok-not-no (sym (ap (mapStep recordCapped) (strict x .tests .fields)) ∙ sym e′ ∙ ap viewSize h)
+          ok-not-no (sym (ap (mapStep fieldsCapped) (strict x .tests .fields)) ∙ sym e′ ∙ ap viewSize h)
 
       module _ (written : ℕ) (next : Cursor) (g : b ≡ SizeRead.Of written next) where
         reads : {q : ℕ} {r : Record} (x : Encoding (RecordBytes true) s at q r)
-            → ok written (next .at) ≡ ok (recordCapped (strict x .spans)) (start .at + n)
-        reads x = sym (ap viewSize g) ∙ e′ ∙ ap (mapStep recordCapped) (strict x .tests .fields)
+            → ok written (next .at) ≡ ok (fieldsCapped (strict x .spans)) (start .at + n)
+        reads x = sym (ap viewSize g) ∙ e′ ∙ ap (mapStep fieldsCapped) (strict x .tests .fields)
 
         pub ends-elsewhere : (next .at ≡ start .at + n → ⊥) → Strictly s at StrictRead.Refused
         ends-elsewhere h q r x = let same = reads x in h (cc)
@@ -90,13 +91,13 @@ module _ (s : List ℕ) (at : ℕ) (a : CountRead) (e : viewCount a ≡ countAt 
         pub longer-fields : (written ≡ n → ⊥) → Strictly s at StrictRead.Refused
         longer-fields h q r x =
             let same = reads x in
-            let is : written ≡ recordCapped (strict x .spans) = cc in
+            let is : written ≡ fieldsCapped (strict x .spans) = cc in
             h (is ∙ strict x .tests .size)
 
-        pub strict-got : ((i : ℕ) → Fits w8 (getD s i 0)) → (k : ℕ) → NumberSize (toZ w64 n) k → n < 2 ^ 32 → at + k ≡ start .at
+        pub strict-got : ((i : ℕ) → Fits w8 (getD s i 0)) → (k : ℕ) → NumberSizePromise (toZ w64 n) k → n < 2 ^ 63 → at + k ≡ start .at
             → getD s (start .at) 0 ≡ 0 → next .at ≡ start .at + n → written ≡ n → Strictly s at (StrictRead.To next)
         strict-got bytes k size small short unused end same =
-            let (r, is, w) = map-ok recordCapped (fieldsAt (take (start .at + n) s) (start .at)) (sym e′ ∙ ap viewSize g) in
+            let (r, is, w) = map-ok fieldsCapped (fieldsAt (take (start .at + n) s) (start .at)) (sym e′ ∙ ap viewSize g) in
             let t : Passes s at n (start .at) r =
             record {
               count = sym e ∙ ap viewCount f;

@@ -1,11 +1,6 @@
 // The canonical check of records: whether bytes are records in the very form in which they are written. A number has no
 // encoding that is shorter than what is written for it, and none other that is as short: so a record is in that form
 // where its length is, its attributes are 0, and its fields are as long together as they are written.
-mod sizes;
-
-use crate::sizes::capped;
-use crate::sizes::number_size;
-use crate::sizes::place_size;
 use primitives::Cursor;
 use records::CountRead;
 use records::Record;
@@ -14,12 +9,16 @@ use records::RecordHeader;
 use records::RecordHeaderRead;
 use records::RecordRead;
 use records::read_count;
-ghost use Prim.Native.Nat.{_+_, min};
+use sizes::capped;
+use sizes::number_size;
+use sizes::place_size;
+ghost use Prim.Native.Nat.{_+_};
 ghost use mathlib.Core.Path.{_≡_};
 ghost use Rattle.primitives.specs.Step.{mapStep, times};
 ghost use Rattle.records.specs.Judgement.{headerAt, fieldsAt};
+ghost use Rattle.sizes.specs.Sizes.{placeSize, headSize, capped};
 ghost use Rattle.canonical.specs.Promises.{CanonicalRecordsPromise};
-ghost use Rattle.canonical.specs.Tight.{cap, placeSize, headSize, headersOnto, recordCapped, viewSize, Strictly};
+ghost use Rattle.canonical.specs.Tight.{headersOnto, fieldsCapped, viewSize, Strictly};
 
 // The place after a record in the form in which it is written.
 enum StrictRead {
@@ -96,7 +95,7 @@ fn canonical_record(s: &[u8], c: Cursor) -> StrictRead
 
 // What follows a record's length.
 fn fields_size(s: &[u8], c: Cursor) -> SizeRead
-    ensures { λ r. ⌜ viewSize r ≡ mapStep recordCapped (fieldsAt (now (s .entry)) (c .at)) ⌝ }
+    ensures { λ r. ⌜ viewSize r ≡ mapStep fieldsCapped (fieldsAt (now (s .entry)) (c .at)) ⌝ }
 {
     match Record::read(c, s) {
         RecordRead::Got(r, next) => {
@@ -134,7 +133,7 @@ fn headers_size(s: &[u8], from: Cursor, count: u32) -> SizeRead
 
 // What a record has before its headers.
 fn head_size(r: Record) -> usize
-    ensures { λ n. ⌜ n ≡ min (headSize (r .deltas .timestamp) (r .deltas .offset) (r .key .len) (r .value .len) (r .headers)) cap ⌝ }
+    ensures { λ n. ⌜ n ≡ capped (headSize (r .deltas .timestamp) (r .deltas .offset) (r .key .len) (r .value .len) (r .headers)) ⌝ }
 {
     let deltas = r.deltas;
     let key = r.key;
@@ -145,7 +144,7 @@ fn head_size(r: Record) -> usize
 }
 
 fn header_size(h: RecordHeader) -> usize
-    ensures { λ n. ⌜ n ≡ min (placeSize (h .key .len) + placeSize (h .value .len)) cap ⌝ }
+    ensures { λ n. ⌜ n ≡ capped (placeSize (h .key .len) + placeSize (h .value .len)) ⌝ }
 {
     let key = h.key;
     let value = h.value;

@@ -7,11 +7,12 @@ use lib.ListN.{length}
 use mir.Syntax.{w64}
 use mir.Val.{SFits, toZ, ofZ}
 use mir.ValLaws.{toZ-ofZ}
+use Rattle.opening.specs.declared.BatchFault.{BatchFault}
+use Rattle.opening.specs.Answers.{batchNumberOf}
 use Rattle.batches.specs.declared.RecordBatch.{RecordBatch}
 use Rattle.batches.specs.declared.ControlBatchOrRecords.{ControlBatchOrRecords}
-use Rattle.batches.specs.declared.BatchFault.{BatchFault}
 use Rattle.batches.specs.declared.BatchRead.{BatchRead}
-use Rattle.batches.specs.Answers.{batchNumberOf, viewKind, viewCount}
+use Rattle.batches.specs.Answers.{viewKind, viewCount}
 use Rattle.listing.specs.declared.Line.{Line}
 use Rattle.listing.specs.declared.Next.{Next}
 use Rattle.listing.specs.declared.Entry.{Entry}

@@ -3,7 +3,7 @@ use Prim.Native.Nat.{ℕ, _+_, _≤_}
 use native.Mathlib.Omega.{arith}
 use lib.IntN.{ℤ, pos, negsuc}
 use lib.ListN.{length, length-append}
-use Rattle.batches.specs.Batch.{abort, commit}
+use Rattle.layout.specs.Batch.{abort, commit}
 use Rattle.batches.specs.Answers.{Kind, ofRecords, ofMarker}
 use Rattle.listing.specs.Text.{ascii, signedDecimal}
 use Rattle.listing.specs.Listing.{kindWord, batchLine, endLine, stopLine}

@@ -9,7 +9,7 @@ use lib.Dec.{ltb}
 use lib.ListN.{length, drop, length-append}
 use lib.Seq.{take-append-seam}
 use Rattle.records.specs.Rows.{Tables}
-use Rattle.batches.specs.Judgement.{judge}
+use Rattle.opening.specs.Judgement.{judge}
 use Rattle.batches.specs.Answers.{Rooms, roomsOf, tablesOf}
 use Rattle.listing.specs.declared.Next.{Next}
 use Rattle.listing.specs.declared.Entry.{Entry}

@@ -11,14 +11,14 @@ use borrow.Author.Tests.{lt-ltb, le-ltb, le-leb, lt-leb}
 use borrow.Rule.Slice.PartAt.{part-to-end}
 use lib.ListN.{length, take, drop, length-drop, drop-of-length-le}
 use Rattle.records.specs.Rows.{Tables}
+use Rattle.layout.specs.Batch.{Fields}
+use Rattle.opening.specs.Judgement.{more, refused, accepted, Accepted, Judgement, totalAt, judgeWith, bareMarkerAt, judge}
 use Rattle.batches.specs.declared.BatchRead.{BatchRead}
-use Rattle.batches.specs.Batch.{Fields}
-use Rattle.batches.specs.Judgement.{more, refused, accepted, Accepted, Judgement, totalAt, judgeWith, bareMarkerAt, judge}
 use Rattle.batches.specs.Answers.{Answer, Kind, viewRead, Rooms, roomsOf, hasRoom, answerOf, tablesOf}
 use Rattle.batches.specs.Promises.{ReadOutcome, ReadPromise}
 use Rattle.batches.proofs.Passed.{passed}
-use Rattle.listing.specs.Listing.{heading, tooLong, batchLine, endLine, stopLine, Turn, line, last, most, firstTurn, judgedTurn, turnAt}
 use Rattle.listing.specs.declared.Entry.{Entry}
+use Rattle.listing.specs.Listing.{heading, tooLong, batchLine, endLine, stopLine, Turn, line, last, most, firstTurn, judgedTurn, turnAt}
 use Rattle.listing.specs.Answers.{entryOf}
 use Rattle.listing.specs.Writing.{readTurn, NextFits}
 use Rattle.listing.specs.Promises.{ListAtPromise}

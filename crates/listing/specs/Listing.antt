@@ -5,8 +5,8 @@ use lib.Dec.{leb, ltb}
 use lib.IntN.{ℤ}
 use lib.ListN.{length, drop}
 use Rattle.primitives.specs.Pick.{pick}
-use Rattle.batches.specs.Batch.{abort, commit}
-use Rattle.batches.specs.Judgement.{Judgement, more, refused, accepted, judge}
+use Rattle.layout.specs.Batch.{abort, commit}
+use Rattle.opening.specs.Judgement.{Judgement, more, refused, accepted, judge}
 use Rattle.batches.specs.Answers.{Kind, ofRecords, ofMarker, kindOf, recordsIn, headersOf, Rooms, hasRoom}
 use Rattle.listing.specs.Text.{ascii, spaced, ended, decimal, signedDecimal}
 

@@ -5,7 +5,7 @@ use mathlib.Core.Path.{_≡_}
 use mathlib.Core.List.{List}
 use lib.ListN.{drop}
 use Rattle.records.specs.Rows.{Tables}
-use Rattle.batches.specs.Judgement.{judge}
+use Rattle.opening.specs.Judgement.{judge}
 use Rattle.batches.specs.Answers.{roomsOf, tablesOf}
 use Rattle.listing.specs.declared.Entry.{Entry}
 use Rattle.listing.specs.Listing.{firstTurn, turnAt}

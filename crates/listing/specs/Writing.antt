@@ -5,8 +5,9 @@ use mathlib.Core.List.{List, [], _∷_}
 use lib.Dec.{ltb}
 use lib.ListN.{set}
 use Rattle.primitives.specs.Pick.{pick}
+use Rattle.opening.specs.Answers.{batchNumberOf}
 use Rattle.batches.specs.declared.BatchRead.{BatchRead}
-use Rattle.batches.specs.Answers.{batchNumberOf, viewKind, viewCount}
+use Rattle.batches.specs.Answers.{viewKind, viewCount}
 use Rattle.listing.specs.declared.Line.{Line}
 use Rattle.listing.specs.Listing.{batchLine, stopLine, Turn, line, last}
 use Rattle.listing.specs.Answers.{lineSize, inLine}

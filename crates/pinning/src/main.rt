@@ -3,7 +3,7 @@
 use batches::ControlBatchOrRecords;
 use batches::ControlBatchRecord;
 use batches::RecordBatch;
-use batches::RecordBatchTimestampType;
+use layout::RecordBatchTimestampType;
 use libc::STDOUT_FILENO;
 use writing::Written;
 ghost use Prim.Native.Nat.{_≤_, _<_};

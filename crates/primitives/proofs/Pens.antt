@@ -97,3 +97,14 @@ unfolding emit pen
 emit-inside at out bs next output e h =
     let f : output ≡ sets out (min at (length out)) bs = ap (λ (p : Pen). p .out) e in
     f ∙ sym (sets-pen at out bs) ∙ sets-eq bs out at h ∙ append-assoc (take at out) bs (drop (at + length bs) out)
+
+-- bytes that are known
+pub known-put : (bs bytes out : List ℕ) (at next : ℕ) (output : List ℕ) → bytes ≡ bs
+    → PutPromise bytes out at (record { next = next; output = output }) → pen next output ≡ emit bs (pen at out)
+known-put bs bytes out at next output e h = put-emits at out bytes next output h ∙ ap (λ (x : List ℕ). emit x (pen at out)) e
+
+-- bytes that go from an output's start to its end are all of it
+pub all-put : (bs out : List ℕ) (next : ℕ) (output : List ℕ) → length bs ≡ length out → pen next output ≡ emit bs (pen 0 out) → output ≡ bs
+all-put bs out next output same e =
+    let past : length out ≤ 0 + length bs = omega arith in
+    emit-inside 0 out bs next output e (omega arith) ∙ ap (λ (rest : List ℕ). bs ++ rest) (drop-of-length-le out past) ∙ append-nil bs

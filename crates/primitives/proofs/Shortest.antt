@@ -11,7 +11,7 @@ use borrow.Author.Tests.{lt-ltb, le-ltb}
 use lib.Pow.{pow-mono}
 use lib.IntN.{ℤ}
 use lib.ListN.{length}
-use Rattle.primitives.specs.Format.{zigzag, groups, fewest, shortest, Tight}
+use Rattle.primitives.specs.Format.{zigzag, groups, fewest, shortest, Tight, Varies}
 use Rattle.primitives.specs.Reading.{full}
 use Rattle.primitives.specs.Statements.{ShortestEncodes, ShortestLeast, ShortestOnly}
 use Rattle.primitives.proofs.Zigzag.{zigzag-below}
@@ -83,11 +83,16 @@ shortest-encodes w strict n h l b =
       tight = tight-shortest strict n;
     }
 
-pub shortest-least : ShortestLeast
+-- a number whose code is no greater needs no more bytes
+pub shortest-within : {w : ℕ} {strict : Bool} {bs : List ℕ} (m n : ℤ) → Varies w strict bs n → zigzag m ≤ zigzag n
+    → length (shortest m) ≤ length bs
 unfolding shortest
-shortest-least w strict bs n v =
-    let f = fewest-groups 9 (zigzag n) in
-    rw (v .is, f .is) (simp groups-length (omega (arith, f .least (v .more) (v .whole))))
+shortest-within m n v h =
+    let f = fewest-groups 9 (zigzag m) in
+    rw (v .is, f .is) (simp groups-length (omega (arith, f .least (v .more) (omega (arith, v .whole)))))
+
+pub shortest-least : ShortestLeast
+shortest-least w strict bs n v = shortest-within n n v (omega arith)
 
 pub shortest-only : ShortestOnly
 unfolding shortest

@@ -40,7 +40,7 @@ use Rattle.records.specs.declared.KeyRead.{KeyRead}
 use Rattle.records.specs.Judgement.{countAt, bytesAt, keyAt, headerAt, Deltas, deltasAt, headAt}
 use Rattle.records.specs.Rows.{spanRow, headerRow}
 use Rattle.records.specs.Answers.{recordNumberOf, viewCount, placeRow, headingOf}
-use Rattle.records.specs.Walk.{bytesRow, viewDeltas, viewPlace, viewKey}
+use Rattle.records.specs.Parts.{bytesRow, viewDeltas, viewPlace, viewKey}
 
 -- ---- a count
 

@@ -11,7 +11,7 @@ use lib.ListN.{length, take, drop, getD, length-append, length-drop, List·getD-
 use lib.Seq.{length-take-le, getD-append-add}
 use Rattle.records.specs.Judgement.{RecordSpans}
 use Rattle.records.specs.Rows.{headersIn, recordRows, headerRows, joined, filled, Tables, roomy, withRows}
-use Rattle.records.proofs.Tables.{Wide, records-wide, headers-wide, enough, records-end, headers-end}
+use Rattle.records.proofs.Wide.{Wide, records-wide, headers-wide, enough, records-end, headers-end}
 
 -- a row of w numbers holds these
 abbrev pub RowHeld : ℕ → List ℤ → ℕ → List ℤ → Type 0

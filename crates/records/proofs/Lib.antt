@@ -1,7 +1,7 @@
 pub mod AllBytes
 pub mod Complete
 pub mod Encodes
-mod Ends
+pub mod Ends
 mod FieldSteps
 mod Found
 pub mod Held
@@ -19,11 +19,7 @@ pub mod Single
 pub mod Sizes
 pub mod Sound
 pub mod Starred
-mod Tables
-mod Turns
 pub mod Unambiguous
-mod WalkSteps
-mod Whole
-mod Within
+pub mod Wide
 pub mod Writable
 pub mod Written

@@ -13,7 +13,7 @@ use Rattle.primitives.specs.Reading.{varintAt, lengthOf, lengthAt, Span, spanOf
 use Rattle.primitives.proofs.Steps.{ok-not-no, and-then-ok, pick-ok, and-then-and-then}
 use Rattle.records.specs.Judgement.{present, bytesAt}
 use Rattle.records.specs.Rows.{spanRow}
-use Rattle.records.specs.Walk.{bytesRow}
+use Rattle.records.specs.Parts.{bytesRow}
 
 pub present-ok : {A : Type 0} (x : Step ℕ (Option A)) {a : A} {q : ℕ} → andThen x present ≡ ok a q → x ≡ ok (some a) q
 present-ok (ok none p) e = ok-not-no (sym e)

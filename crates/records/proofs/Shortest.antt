@@ -11,11 +11,10 @@ use lib.IntN.{ℤ, pos}
 use lib.ListN.{length, length-append}
 use Rattle.primitives.specs.Format.{shortest, Varies, Sized, Nullable}
 use Rattle.primitives.proofs.Integers.{integer-length}
-use Rattle.primitives.proofs.Shortest.{shortest-least, shortest-only}
+use Rattle.primitives.proofs.Shortest.{shortest-within, shortest-least, shortest-only}
 use Rattle.records.specs.Format.{Header, Record, Run, HeaderBytes, Fields}
 use Rattle.records.specs.Written.{writtenBytes, writtenNullable, writtenHeader, writtenHeaders, writtenFields, writtenRecord, writtenRecords}
 use Rattle.records.specs.Statements.{RecordShortest, RunShortest, RecordTight}
-use Rattle.records.proofs.Within.{shortest-within}
 use Rattle.records.proofs.Encodes.{written-length}
 
 -- ---- numbers

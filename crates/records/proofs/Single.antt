@@ -1,5 +1,4 @@
--- Each promise admits a single answer: from what the answer says it can be made again, and the tables are given.
--- Assumes nothing.
+-- Each promise admits a single answer: from what the answer says it can be made again. Assumes nothing.
 use Prim.Native.Nat.{ℕ, suc}
 use mathlib.Core.Path.{_≡_, refl, ap}
 use mathlib.Core.List.{List}
@@ -17,11 +16,8 @@ use Rattle.records.specs.declared.Place.{Place}
 use Rattle.records.specs.declared.CountRead.{CountRead}
 use Rattle.records.specs.declared.RecordHeaderRead.{RecordHeaderRead}
 use Rattle.records.specs.declared.RecordRead.{RecordRead}
-use Rattle.records.specs.declared.RecordsCheck.{RecordsCheck}
-use Rattle.records.specs.declared.RecordsRead.{RecordsRead}
-use Rattle.records.specs.Rows.{Tables}
-use Rattle.records.specs.Answers.{recordNumberOf, viewCount, viewHeader, Heading, viewRecord, Counts, viewCheck, Answer, viewRead}
-use Rattle.records.specs.Promises.{RecordNumberPromise, ReadCountPromise, ReadHeaderPromise, ReadRecordPromise, CheckRecordsPromise, ReadRecordsPromise}
+use Rattle.records.specs.Answers.{recordNumberOf, viewCount, viewHeader, Heading, viewRecord}
+use Rattle.records.specs.Promises.{RecordNumberPromise, ReadCountPromise, ReadHeaderPromise, ReadRecordPromise}
 
 pub single-record-number : (f : RecordFault) → Single (RecordNumberPromise f)
 single-record-number f = single-value _
@@ -29,7 +25,7 @@ single-record-number f = single-value _
 -- ---- an answer, made from what it says
 
 -- the refusal with that number, or another answer where no fault has it
-abbrev refusal : {R : Type 0} → (RecordFault → R) → R → ℕ → R
+abbrev pub refusal : {R : Type 0} → (RecordFault → R) → R → ℕ → R
 refusal refused other n =
     pick (eqb n 8) (refused (Field PastEnd))
     (pick (eqb n 9) (refused (Field BeyondLimits))
@@ -37,7 +33,7 @@ refusal refused other n =
     (pick (eqb n 11) (refused KeyNotUtf8)
     (pick (eqb n 13) (refused BytesLeft) other))))
 
-refusal-again : {R : Type 0} (refused : RecordFault → R) (other : R) (f : RecordFault)
+pub refusal-again : {R : Type 0} (refused : RecordFault → R) (other : R) (f : RecordFault)
     → refusal refused other (recordNumberOf f) ≡ refused f
 refusal-again refused other (Field PastEnd) = refl
 refusal-again refused other (Field BeyondLimits) = refl
@@ -76,29 +72,3 @@ pub single-read-record : (s : List ℕ) (at : ℕ) → Single (ReadRecordPromise
 single-read-record s at =
     single-view viewRecord (back recordGot RecordRead.Refused)
     (λ r. elim r [ RecordRead.Got h c ↦ refl | RecordRead.Refused f ↦ ap RecordRead.Refused (fault-again f) ]) _
-
-abbrev checked : Step ℕ Counts → RecordsCheck
-checked (ok n q) = RecordsCheck.Accepted (n .records) (n .headers) q
-checked (no m) = refusal RecordsCheck.Refused (RecordsCheck.Accepted 0 0 0) m
-
-pub single-check-records : (s : List ℕ) (at count : ℕ) → Single (CheckRecordsPromise s at count)
-single-check-records s at count =
-    single-view viewCheck checked
-    (λ r. elim r [ RecordsCheck.Accepted n m q ↦ refl | RecordsCheck.Refused f ↦ refusal-again RecordsCheck.Refused _ f ]) _
-
-abbrev read : Answer → RecordsRead
-read a =
-    refusal RecordsRead.Refused
-    (pick (eqb (a .number) 0) (RecordsRead.Accepted (a .records) (a .headers) (a .end))
-    (RecordsRead.NoRoom (a .records) (a .headers))) (a .number)
-
-read-again : (r : RecordsRead) → read (viewRead r) ≡ r
-read-again (RecordsRead.Accepted n m q) = refl
-read-again (RecordsRead.Refused f) = refusal-again RecordsRead.Refused _ f
-read-again (RecordsRead.NoRoom n m) = refl
-
-pub single-read-records : (s : List ℕ) (at count first : ℕ) (t : Tables) → Single (ReadRecordsPromise s at count first t)
-single-read-records s at count first t o o′ e e′ =
-    let p = single-view viewRead read read-again _ (o .result) (o′ .result) (e .answer) (e′ .answer) in
-    let q = single-value _ (o .tables) (o′ .tables) (e .tables) (e′ .tables) in
-    λ i. record { result = p i; tables = q i }

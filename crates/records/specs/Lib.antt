@@ -7,4 +7,4 @@ pub mod Answers
 pub mod Promises
 pub mod Starred
 pub mod Statements
-pub mod Walk
+pub mod Parts

@@ -2,9 +2,10 @@
 use crate::characters;
 use crate::characters::AROUND;
 use crate::checksums;
-use crate::reading;
-use crate::reading::Outcome;
+use crate::fields;
+use crate::fields::Outcome;
 use crate::rows;
+use crate::totals;
 use crate::writing;
 use cases::text::Number;
 use cases::text::Spelled;
@@ -30,6 +31,9 @@ pub fn agrees(line: &[u8], space: &mut [u8]) -> bool {
     }
     if same(first, b"utf8") {
         return judged(line, space);
+    }
+    if same(first, b"total") {
+        return totals::agrees(line);
     }
     read(line, first, space)
 }
@@ -135,7 +139,7 @@ fn answered(kind: &[u8], s: &[u8], at: usize, line: &[u8]) -> bool {
     if same(kind, b"copy") {
         return at == 0 && writing::copies(s, line);
     }
-    reading::read(kind, s, at).same(expected(line))
+    fields::read(kind, s, at).same(expected(line))
 }
 
 // The suffix is empty or starts with @.

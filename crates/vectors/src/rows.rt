@@ -11,11 +11,11 @@ use cases::text::before;
 use cases::text::unsigned;
 use cases::text::word;
 use cases::text::words;
+use reading::RecordsCheck;
+use reading::RecordsRead;
+use reading::check_records;
+use reading::read_records;
 use records::RecordFault;
-use records::RecordsCheck;
-use records::RecordsRead;
-use records::check_records;
-use records::read_records;
 
 // The place, how many records are read, the first header row, and how many numbers each table has.
 struct Question {

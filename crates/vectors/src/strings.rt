@@ -3,8 +3,8 @@
 // number back. "A signed n maps to 2n if n is not negative and to -2n - 1 otherwise; then seven bits a byte, lowest
 // first, the top bit set on all but the last." The other strings are those whose last byte has its top bit set: no
 // whole number stands there.
-use crate::reading;
-use crate::reading::Outcome;
+use crate::fields;
+use crate::fields::Outcome;
 use cases::integer::Integer;
 use cases::tally::Tally;
 
@@ -155,8 +155,8 @@ fn meet(string: usize, met: &mut [u8]) -> bool {
 }
 
 fn both_widths(t: Tally, s: &[u8], expected: Outcome, is_first: bool) -> Tally {
-    t.with(is_first && reading::varint(s, 0).same(expected))
-        .with(is_first && reading::varlong(s, 0).same(expected))
+    t.with(is_first && fields::varint(s, 0).same(expected))
+        .with(is_first && fields::varlong(s, 0).same(expected))
 }
 
 fn read(n: Integer, after: u64) -> Outcome {

@@ -1,13 +1,9 @@
-pub mod Asking
-mod Asks
 mod Fields
-mod HeaderRows
+mod Inside
 mod Lengths
 mod Loops
-pub mod Own
+pub mod Outcomes
 mod Pens
-mod RecordRows
-pub mod Refusals
 pub mod Single
 mod Sizing
 pub mod Untouched

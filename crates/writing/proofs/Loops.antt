@@ -1,11 +1,12 @@
 -- How the walks over rows turn: what is still to come, put onto what there is, is the same after each turn. Assumes
 -- nothing.
-use Prim.Native.Nat.{ℕ, _+_, _-_, _≤_, _<_, min}
+use Prim.Native.Nat.{ℕ, _+_, _-_, _/_, _≤_, _<_, min}
 use mathlib.Core.Path.{_≡_, sym, ap, _∙_}
 use mathlib.Core.List.{List, [], _∷_, map}
 use native.Mathlib.Omega.{arith}
 use native.Mathlib.Nat.{zero-add}
 use lib.IntN.{ℤ}
+use lib.ListN.{length}
 use Rattle.primitives.specs.Step.{Step, ok, no, mapStep, times}
 use Rattle.primitives.specs.Pen.{Pen, pen, emit}
 use Rattle.primitives.proofs.Steps.{map-ok, map-no, times-again, times-stop, times-done}
@@ -14,14 +15,16 @@ use Rattle.records.specs.Judgement.{HeaderSpans, RecordSpans}
 use Rattle.records.specs.Rows.{Tables}
 use Rattle.records.specs.Placed.{shownHeader}
 use Rattle.records.specs.Written.{writtenHeader, writtenHeaders}
-use Rattle.writing.specs.declared.WriteFault.{WriteFault}
-use Rattle.writing.specs.declared.HeaderAsked.{HeaderAsked}
-use Rattle.writing.specs.declared.AskedHeader.{AskedHeader}
+use Rattle.sizes.specs.Sizes.{headerSize, headersSize, recordSize, recordsSize, cap, capped}
+use Rattle.asking.specs.declared.WriteFault.{WriteFault}
+use Rattle.asking.specs.declared.HeaderAsked.{HeaderAsked}
+use Rattle.asking.specs.declared.AskedHeader.{AskedHeader}
+use Rattle.asking.specs.Asked.{headerAsked, headerRowAsked, RowPlace, rowPlace, recordAsked}
+use Rattle.asking.specs.Answers.{writeNumberOf, viewHeader, headerOf}
+use Rattle.asking.proofs.There.{header-there}
 use Rattle.writing.specs.declared.RowSized.{RowSized}
 use Rattle.writing.specs.declared.RowPut.{RowPut}
-use Rattle.writing.specs.Asked.{headerAsked, RowPlace, rowPlace, recordAsked}
-use Rattle.writing.specs.Answers.{writeNumberOf}
-use Rattle.writing.specs.Sizes.{viewHeader, headerOf, headerSize, headersSize, recordSize, recordsSize, cap, capped, forget, viewRowSized}
+use Rattle.writing.specs.Sized.{forget, viewRowSized}
 use Rattle.writing.specs.Put.{cappedRecord, cappedRecords, viewRowPut}
 
 -- ---- any walk: f reads a row, g puts a list of what is still to come onto what there is
@@ -51,25 +54,29 @@ module _ (t : List ℤ) (s : List ℕ) where
   headersOn p hs = emit (writtenHeaders (map (shownHeader s) hs)) p
 
   module _ {S R : Type 0} (g : S → List HeaderSpans → R) (now : S) (k row : ℕ) (whole : Step ℕ R)
-      (inv : rest (headerAsked t s) g now k row ≡ whole) (some : 0 < k) (r : HeaderAsked)
-      (e : viewHeader row r ≡ headerAsked t s row) where
+      (inv : rest (headerAsked t s) g now k row ≡ whole) (some : 0 < k) (next-row : ℕ) (within : row + k ≡ next-row)
+      (there : next-row ≤ length t / 4) (r : HeaderAsked) (e : viewHeader row r ≡ headerRowAsked t s row) where
+    asked : viewHeader row r ≡ headerAsked t s row
+    asked = header-there t s row (omega arith) _ e
+
     header-turn : (h : AskedHeader) → r ≡ HeaderAsked.Got h → (next : S) → ((hs : List HeaderSpans) → g next hs ≡ g now (headerOf h ∷ hs))
         → rest (headerAsked t s) g next (k - 1) (row + 1) ≡ whole
     header-turn h f next same =
-        turn (headerAsked t s) g now k row whole inv next (headerOf h) (row + 1) some (sym e ∙ ap (viewHeader row) f) same
+        turn (headerAsked t s) g now k row whole inv next (headerOf h) (row + 1) some (sym asked ∙ ap (viewHeader row) f) same
 
     pub header-stop : (f : WriteFault) → r ≡ HeaderAsked.Refused f → no (writeNumberOf f) ≡ whole
-    header-stop f h = stop (headerAsked t s) g now k row whole inv some (sym e ∙ ap (viewHeader row) h)
+    header-stop f h = stop (headerAsked t s) g now k row whole inv some (sym asked ∙ ap (viewHeader row) h)
 
   pub sizes-start : (k row : ℕ) → rest (headerAsked t s) sizesOn 0 k row ≡ mapStep (λ hs. capped (headersSize hs)) (times (headerAsked t s) k row)
   sizes-start k row = λ i. mapStep (λ hs. capped (zero-add (headersSize hs) i)) (times (headerAsked t s) k row)
 
-  pub sizes-turn : (sum k row : ℕ) (whole : Step ℕ ℕ) (r : HeaderAsked) (h : AskedHeader) (n next : ℕ)
-      → rest (headerAsked t s) sizesOn sum k row ≡ whole → 0 < k → viewHeader row r ≡ headerAsked t s row → r ≡ HeaderAsked.Got h
+  pub sizes-turn : (sum k row : ℕ) (whole : Step ℕ ℕ) (r : HeaderAsked) (h : AskedHeader) (n next end : ℕ)
+      → rest (headerAsked t s) sizesOn sum k row ≡ whole → 0 < k → row + k ≡ end → end ≤ length t / 4 → viewHeader row r ≡ headerRowAsked t s row
+      → r ≡ HeaderAsked.Got h
       → n ≡ capped (headerSize (headerOf h)) → next ≡ min (sum + n) cap → rest (headerAsked t s) sizesOn next (k - 1) (row + 1) ≡ whole
   unfolding headersSize
-  sizes-turn sum k row whole r h n next inv some e f size sums =
-      header-turn sizesOn sum k row whole inv some r e h f next (λ hs. omega (arith, size, sums))
+  sizes-turn sum k row whole r h n next end inv some within there e f size sums =
+      header-turn sizesOn sum k row whole inv some end within there r e h f next (λ hs. omega (arith, size, sums))
 
   pub sizes-end : (sum k row next : ℕ) (whole : Step ℕ ℕ) → rest (headerAsked t s) sizesOn sum k row ≡ whole → k ≡ 0 → sum ≤ cap
       → row ≡ next → ok sum next ≡ whole
@@ -83,12 +90,13 @@ module _ (t : List ℤ) (s : List ℕ) where
       at′ : next ≡ row
       at′ = sym at
 
-  pub headers-turn : (p : Pen) (k row : ℕ) (whole : Step ℕ Pen) (r : HeaderAsked) (h : AskedHeader) (q : Pen)
-      → rest (headerAsked t s) headersOn p k row ≡ whole → 0 < k → viewHeader row r ≡ headerAsked t s row → r ≡ HeaderAsked.Got h
+  pub headers-turn : (p : Pen) (k row : ℕ) (whole : Step ℕ Pen) (r : HeaderAsked) (h : AskedHeader) (q : Pen) (end : ℕ)
+      → rest (headerAsked t s) headersOn p k row ≡ whole → 0 < k → row + k ≡ end → end ≤ length t / 4 → viewHeader row r ≡ headerRowAsked t s row
+      → r ≡ HeaderAsked.Got h
       → q ≡ emit (writtenHeader (shownHeader s (headerOf h))) p → rest (headerAsked t s) headersOn q (k - 1) (row + 1) ≡ whole
   unfolding writtenHeaders
-  headers-turn p k row whole r h q inv some e f put =
-      header-turn headersOn p k row whole inv some r e h f q
+  headers-turn p k row whole r h q end inv some within there e f put =
+      header-turn headersOn p k row whole inv some end within there r e h f q
       (λ hs. ap (emit (writtenHeaders (map (shownHeader s) hs))) put ∙ emit-emit (writtenHeader (shownHeader s (headerOf h))) (writtenHeaders (map (shownHeader s) hs)) p)
 
   pub headers-end : (at : ℕ) (out : List ℕ) (k row next : ℕ) (whole : Step ℕ Pen) → rest (headerAsked t s) headersOn (pen at out) k row ≡ whole

@@ -19,9 +19,9 @@ use Rattle.primitives.specs.Reading.{shown}
 use Rattle.primitives.proofs.Pens.{put-emits, emit-emit}
 use Rattle.records.specs.Judgement.{bytesOf}
 use Rattle.records.specs.Written.{writtenBytes, writtenNullable}
-use Rattle.writing.specs.declared.Shown.{Shown}
-use Rattle.writing.specs.Sizes.{spanOf}
-use Rattle.writing.specs.Put.{NullableInside}
+use Rattle.sizes.specs.Inside.{NullableInside}
+use Rattle.asking.specs.declared.Shown.{Shown}
+use Rattle.asking.specs.Answers.{spanOf}
 
 -- ---- numbers
 

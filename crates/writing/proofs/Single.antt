@@ -8,22 +8,13 @@ use Rattle.primitives.specs.Pick.{pick}
 use Rattle.primitives.specs.Single.{Single}
 use Rattle.primitives.proofs.Single.{single-value, single-view}
 use Rattle.records.specs.Rows.{Tables}
-use Rattle.writing.specs.declared.WriteFault.{WriteFault}
+use Rattle.asking.specs.declared.WriteFault.{WriteFault}
+use Rattle.asking.proofs.Single.{fault}
 use Rattle.writing.specs.declared.Written.{Written}
 use Rattle.writing.specs.Answers.{Answer, viewWritten, Given}
-use Rattle.writing.specs.Promises.{WriteNumberPromise, MeasureRecordsPromise, WriteBy, WriteRecordsPromise}
-
-pub single-write-number : (f : WriteFault) → Single (WriteNumberPromise f)
-single-write-number f = single-value _
+use Rattle.writing.specs.Promises.{MeasureRecordsPromise, WriteBy, WriteRecordsPromise}
 
 -- ---- an answer, made from what it says
-
-abbrev fault : ℕ → WriteFault
-fault n =
-    pick (eqb n 20) WriteFault.Codec
-    (pick (eqb n 21) WriteFault.Row
-    (pick (eqb n 22) WriteFault.KeyNotUtf8
-    (pick (eqb n 23) WriteFault.TooLong WriteFault.ShortOutput)))
 
 abbrev answer : Answer → Written
 answer a = pick (eqb (a .number) 0) (Written.Bytes (a .bytes)) (Written.Refused (fault (a .number)))

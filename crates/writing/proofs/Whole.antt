@@ -18,17 +18,20 @@ use Rattle.records.specs.Judgement.{RecordSpans}
 use Rattle.records.specs.Rows.{Tables}
 use Rattle.records.specs.Placed.{shownRecords}
 use Rattle.records.specs.Written.{writtenRecords}
-use Rattle.writing.specs.declared.WriteFault.{WriteFault}
+use Rattle.sizes.specs.Sizes.{recordsSize, capped}
+use Rattle.asking.specs.declared.WriteFault.{WriteFault}
+use Rattle.asking.specs.Answers.{writeNumberOf}
+use Rattle.asking.specs.Asked.{RowPlace, rowPlace, recordAsked, recordsAsked}
+use Rattle.asking.proofs.Refusals.{RowFault, records-refused}
 use Rattle.writing.specs.declared.Written.{Written}
 use Rattle.writing.specs.declared.Sized.{Sized}
 use Rattle.writing.specs.declared.Put.{Put}
-use Rattle.writing.specs.Asked.{RowPlace, rowPlace, recordAsked, recordsAsked}
-use Rattle.writing.specs.Answers.{writeNumberOf, Answer, writes, refuses, viewWritten, mostBytes, Given, given, refused, recordsGiven, measured, over}
+use Rattle.writing.specs.Answers.{Answer, writes, refuses, viewWritten, mostBytes, Given, given, refused, recordsGiven, measured, over}
 use Rattle.writing.specs.Promises.{WriteBy}
-use Rattle.writing.specs.Sizes.{recordsSize, capped, forget, viewSized}
+use Rattle.writing.specs.Sized.{forget, viewSized}
 use Rattle.writing.specs.Put.{cappedRecords, viewPut}
 use Rattle.writing.proofs.Lengths.{together}
-use Rattle.writing.proofs.Refusals.{RowFault, records-refused}
+use Rattle.writing.proofs.Outcomes.{apart}
 
 forget-ok : {P A : Type 0} (x : Step P A) {a : A} {q : ℕ} → ok a q ≡ forget x → (p : P) × (x ≡ ok a p)
 forget-ok (ok b p) {a} e = let w : b ≡ a = cc in (p, ap (λ c. ok c p) w)
@@ -86,13 +89,6 @@ module _ (t : Tables) (s : List ℕ) (first count : ℕ) where
 
 -- ---- into an output
 
-fault-number : (f : WriteFault) → writeNumberOf f ≡ 0 → ⊥
-fault-number WriteFault.Codec e = omega (arith, e)
-fault-number WriteFault.Row e = omega (arith, e)
-fault-number WriteFault.KeyNotUtf8 e = omega (arith, e)
-fault-number WriteFault.TooLong e = omega (arith, e)
-fault-number WriteFault.ShortOutput e = omega (arith, e)
-
 -- bytes for which there is room, and bytes for which there is none
 written-by : (bs : List ℕ) (at : ℕ) (out output : List ℕ) → at + length bs ≤ length out → output ≡ over at bs out
     → WriteBy (given bs) at out (record { result = Written.Bytes (length bs); output = output })
@@ -115,8 +111,7 @@ short-by bs at out h =
 -- what is refused is refused with the same number, whatever the output
 pub refused-by : (g : Given) (at : ℕ) (out : List ℕ) (f : WriteFault) (r : Written) → viewWritten r ≡ measured g → r ≡ Written.Refused f
     → WriteBy g at out (record { result = Written.Refused f; output = out })
-refused-by (given bs) at out f r e h =
-    absurd (fault-number f (ap (λ (a : Answer). a .number) (sym (ap viewWritten h) ∙ e)))
+refused-by (given bs) at out f r e h = apart f (sym (ap viewWritten h) ∙ e)
 refused-by (refused m) at out f r e h = record { answer = sym (ap viewWritten h) ∙ e; output = refl }
 
 module _ (t : Tables) (s : List ℕ) (first count : ℕ) where

@@ -8,17 +8,9 @@ use Rattle.primitives.specs.Step.{Step, ok, no}
 use Rattle.records.specs.Judgement.{RecordSpans}
 use Rattle.records.specs.Placed.{shownRecords}
 use Rattle.records.specs.Written.{writtenRecords}
-use Rattle.writing.specs.declared.WriteFault.{WriteFault}
+use Rattle.asking.specs.Asked.{RowPlace}
+use Rattle.asking.specs.Answers.{writeNumberOf}
 use Rattle.writing.specs.declared.Written.{Written}
-use Rattle.writing.specs.Asked.{RowPlace}
-
--- document 01, Writer's numbers
-abbrev pub writeNumberOf : WriteFault → ℕ
-writeNumberOf WriteFault.Codec = 20
-writeNumberOf WriteFault.Row = 21
-writeNumberOf WriteFault.KeyNotUtf8 = 22
-writeNumberOf WriteFault.TooLong = 23
-writeNumberOf WriteFault.ShortOutput = 24
 
 -- 0 with the length that is written; any other number with 0
 pub record Answer : Type 0 where

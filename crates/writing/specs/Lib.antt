@@ -1,6 +1,5 @@
-pub mod Asked
 pub mod Answers
 pub mod Promises
 pub mod Statements
-pub mod Sizes
+pub mod Sized
 pub mod Put

@@ -4,14 +4,9 @@ use Prim.Native.Nat.{ℕ}
 use mathlib.Core.Path.{_≡_}
 use mathlib.Core.List.{List}
 use Rattle.records.specs.Rows.{Tables}
-use Rattle.writing.specs.declared.WriteFault.{WriteFault}
+use Rattle.asking.specs.Asked.{recordsAsked}
 use Rattle.writing.specs.declared.Written.{Written}
-use Rattle.writing.specs.Asked.{recordsAsked}
-use Rattle.writing.specs.Answers.{writeNumberOf, viewWritten, Given, recordsGiven, measured, answerDue, outputDue}
-
--- WriteFault::number
-abbrev pub WriteNumberPromise : WriteFault → ℕ → Type 0
-WriteNumberPromise f r = r ≡ writeNumberOf f
+use Rattle.writing.specs.Answers.{viewWritten, Given, recordsGiven, measured, answerDue, outputDue}
 
 -- measure_records, of as many records, their headers from a first header row on, and a source s
 abbrev pub MeasureRecordsPromise : Tables → ℕ → ℕ → List ℕ → Written → Type 0

@@ -1,37 +1,22 @@
 -- Words of private contracts: none of them stands in a promise. What the walk that writes leaves in the output.
-use Prim.Native.Nat.{ℕ, _+_, _≤_}
-use mathlib.Core.Option.{Option, none, some}
+use Prim.Native.Nat.{ℕ, _+_}
 use mathlib.Core.List.{List, [], _∷_, _++_}
 use lib.IntN.{pos}
-use lib.ListN.{length}
 use Rattle.primitives.specs.Format.{shortest}
 use Rattle.primitives.specs.Step.{Step, ok, no}
 use Rattle.primitives.specs.Pen.{Pen, pen}
-use Rattle.primitives.specs.Reading.{Span}
-use Rattle.records.specs.Judgement.{HeaderSpans, RecordSpans}
+use Rattle.records.specs.Judgement.{RecordSpans}
 use Rattle.records.specs.Placed.{shownRecord}
 use Rattle.records.specs.Written.{writtenFields}
+use Rattle.sizes.specs.Sizes.{fieldsSize, capped}
+use Rattle.asking.specs.Asked.{RowPlace, rowPlace}
+use Rattle.asking.specs.Answers.{writeNumberOf}
 use Rattle.writing.specs.declared.Put.{Put}
 use Rattle.writing.specs.declared.RowPut.{RowPut}
-use Rattle.writing.specs.Asked.{RowPlace, rowPlace}
-use Rattle.writing.specs.Answers.{writeNumberOf}
-use Rattle.writing.specs.Sizes.{fieldsSize, headFrom, capped}
-
--- spans inside a source
-abbrev pub Inside : List ℕ → Span → Type 0
-Inside s x = x .start + x .len ≤ length s
-
-abbrev pub NullableInside : List ℕ → Option Span → Type 0
-NullableInside s none = Unit {0}
-NullableInside s (some x) = Inside s x
-
-pub record HeaderInside (s : List ℕ) (h : HeaderSpans) : Type 0 where
-  pub key : Inside s (h .key)
-  pub value : Inside s (h .value)
 
 -- a record after a length that goes no higher than the cap
 unfoldable pub cappedRecord : List ℕ → RecordSpans → List ℕ
-cappedRecord s r = shortest (pos (capped (fieldsSize (headFrom r) (r .headers)))) ++ writtenFields (shownRecord s r)
+cappedRecord s r = shortest (pos (capped (fieldsSize r))) ++ writtenFields (shownRecord s r)
 
 unfoldable pub cappedRecords : List ℕ → List RecordSpans → List ℕ
 cappedRecords s [] = []

@@ -1,10 +1,21 @@
 // Records and their headers, written from lent tables and a lent source into a lent output.
+use asking::AskedHeader;
+use asking::AskedRecord;
+use asking::HeaderAsked;
+use asking::RecordAsked;
+use asking::Shown;
+use asking::WriteFault;
+use asking::header_asked;
+use asking::record_asked;
 use primitives::Span;
 use primitives::Varint;
 use primitives::Varlong;
 use primitives::put;
-use utf8::is_utf8;
-ghost use Prim.Native.Nat.{_+_, _/_, _^_, _<_, _≤_, min};
+use records::Record;
+use sizes::capped;
+use sizes::number_size;
+use sizes::span_size;
+ghost use Prim.Native.Nat.{_+_, _/_, _^_, _<_, _≤_};
 ghost use mathlib.Core.Path.{_≡_};
 ghost use mathlib.Core.List.{[], _∷_, _++_, map};
 ghost use lib.IntN.{pos};
@@ -17,65 +28,18 @@ ghost use Rattle.records.specs.Judgement.{bytesOf};
 ghost use Rattle.records.specs.Rows.{tables};
 ghost use Rattle.records.specs.Placed.{shownHeader, shownRecord};
 ghost use Rattle.records.specs.Written.{writtenBytes, writtenNullable, writtenHeader, writtenHeaders, writtenFields};
-ghost use Rattle.writing.specs.Asked.{askedNullable, askedCount, headerAsked, headAsked, withHeaders, rowPlace, recordAsked};
-ghost use Rattle.writing.specs.Sizes.{spanOf, viewAsked, headerOf, viewHeader, viewCount, headOf, viewRecord, spanSize, nullableSize, headerSize, headersSize, headSize, fieldsSize, recordSize, recordsSize, capped, forget, viewSized, viewRowSized};
-ghost use Rattle.writing.specs.Put.{NullableInside, HeaderInside, cappedRecord, cappedRecords, viewPut, viewRowPut};
-ghost use Rattle.writing.specs.Promises.{WriteNumberPromise, MeasureRecordsPromise, WriteRecordsPromise};
-
-// Why a batch, or its records, are not written. Records alone are never refused for their codec.
-pub enum WriteFault {
-    Codec,
-    Row,
-    KeyNotUtf8,
-    TooLong,
-    ShortOutput,
-}
+ghost use Rattle.sizes.specs.Inside.{NullableInside, HeaderInside};
+ghost use Rattle.sizes.specs.Sizes.{placeSize, lengthIn, headerSize, headersSize, fieldsSize, recordSize, recordsSize, capped};
+ghost use Rattle.asking.specs.Asked.{headerAsked, withHeaders, rowPlace, recordAsked};
+ghost use Rattle.asking.specs.Answers.{spanOf, headerOf, headOf};
+ghost use Rattle.writing.specs.Sized.{headOfSize, forget, viewSized, viewRowSized};
+ghost use Rattle.writing.specs.Put.{cappedRecord, cappedRecords, viewPut, viewRowPut};
+ghost use Rattle.writing.specs.Promises.{MeasureRecordsPromise, WriteRecordsPromise};
 
 // How many bytes are written.
 pub enum Written {
     Bytes(usize),
     Refused(WriteFault),
-}
-
-// Bytes of the source, or null.
-enum Shown {
-    Null,
-    Bytes(Span),
-}
-
-// What a start and a length of a row ask for.
-enum Asked {
-    Got(Shown),
-    Wrong,
-}
-
-struct AskedHeader {
-    key: Span,
-    value: Span,
-}
-
-enum HeaderAsked {
-    Got(AskedHeader),
-    Refused(WriteFault),
-}
-
-// How many headers a record's row asks for.
-enum CountAsked {
-    Got(usize),
-    Wrong,
-}
-
-struct AskedRecord {
-    timestamp_delta: i64,
-    offset_delta: i32,
-    key: Shown,
-    value: Shown,
-    headers: usize,
-}
-
-enum RecordAsked {
-    Got(AskedRecord),
-    Wrong,
 }
 
 // How many bytes something takes, as far as a Varint holds them.
@@ -102,29 +66,6 @@ enum RowPut {
     Refused(WriteFault),
 }
 
-impl WriteFault {
-    // Document 01's number.
-    pub fn number(self) -> u8
-        ensures { λ r. ⌜ WriteNumberPromise self r ⌝ }
-    {
-        match self {
-            WriteFault::Codec => 20,
-            WriteFault::Row => 21,
-            WriteFault::KeyNotUtf8 => 22,
-            WriteFault::TooLong => 23,
-            WriteFault::ShortOutput => 24,
-        }
-    }
-}
-
-// The numbers of a record's row, and of a header's.
-const RECORD_ROW: usize = 8;
-
-const HEADER_ROW: usize = 4;
-
-// A size from here on is held by no Varint.
-const CAP: usize = 2147483648;
-
 // The most bytes of records that batchLength leaves room for beside the fields that it counts.
 const MOST: usize = 2147483598;
 
@@ -138,7 +79,7 @@ pub fn measure_records(
 ) -> Written
     ensures { λ r. ⌜ MeasureRecordsPromise (tables (now (records .entry)) (now (headers .entry))) «first_header_row» count (now (source .entry)) r ⌝ }
 {
-    if records.len() / RECORD_ROW < count {
+    if records.len() / Record::ROW < count {
         return Written::Refused(WriteFault::Row);
     }
     match size_records(records, headers, first_header_row, count, source) {
@@ -188,149 +129,8 @@ pub fn write_records(
     }
 }
 
-// Start and length as a row has them. Start and length are never added up: their sum may be too large for the machine.
-fn span_asked(size: usize, start: i64, len: i64) -> Asked
-    ensures { λ r. ⌜ viewAsked 0 r ≡ askedNullable size start len 0 ⌝ }
-{
-    if start < 0 {
-        return Asked::Wrong;
-    }
-    if len < 0 {
-        if len == -1 {
-            if start == 0 {
-                return Asked::Got(Shown::Null);
-            }
-        }
-        return Asked::Wrong;
-    }
-    let start = start as usize;
-    let len = len as usize;
-    if size < len {
-        return Asked::Wrong;
-    }
-    if size - len < start {
-        return Asked::Wrong;
-    }
-    Asked::Got(Shown::Bytes(Span { start, len }))
-}
-
-// A header's row. Its numbers are judged before its key.
-fn header_asked(headers: &[i64], source: &[u8], row: usize) -> HeaderAsked
-    requires { ⌜ row < length (now headers) / 4 ⌝ }
-    ensures { λ r. ⌜ viewHeader row r ≡ headerAsked (now (headers .entry)) (now (source .entry)) row ⌝ }
-{
-    let at = row * HEADER_ROW;
-    let size = source.len();
-    let Asked::Got(key) = span_asked(size, headers[at], headers[at + 1]) else {
-        return HeaderAsked::Refused(WriteFault::Row);
-    };
-    let Asked::Got(value) = span_asked(size, headers[at + 2], headers[at + 3]) else {
-        return HeaderAsked::Refused(WriteFault::Row);
-    };
-    let Shown::Bytes(key) = key else {
-        return HeaderAsked::Refused(WriteFault::Row);
-    };
-    let Shown::Bytes(value) = value else {
-        return HeaderAsked::Refused(WriteFault::Row);
-    };
-    let start = key.start;
-    let end = start + key.len;
-    if is_utf8(&source[start..end]) {
-        HeaderAsked::Got(AskedHeader { key, value })
-    } else {
-        HeaderAsked::Refused(WriteFault::KeyNotUtf8)
-    }
-}
-
-// First header row and header count as a row has them: the headers run on from `first`, within as many rows.
-fn asked_count(rows: usize, first: usize, named: i64, count: i64) -> CountAsked
-    ensures { λ r. ⌜ viewCount 0 r ≡ askedCount rows first named count 0 ⌝ }
-{
-    if named < 0 {
-        return CountAsked::Wrong;
-    }
-    if count < 0 {
-        return CountAsked::Wrong;
-    }
-    let count = count as usize;
-    if named as usize != first {
-        return CountAsked::Wrong;
-    }
-    if rows < count {
-        return CountAsked::Wrong;
-    }
-    if rows - count < first {
-        return CountAsked::Wrong;
-    }
-    CountAsked::Got(count)
-}
-
-// A record's row. Its headers are judged after it.
-fn record_asked(
-    records: &[i64],
-    headers: &[i64],
-    source: &[u8],
-    row: usize,
-    first: usize,
-) -> RecordAsked
-    requires { ⌜ row < length (now records) / 8 ⌝ }
-    ensures { λ r. ⌜ viewRecord row r ≡ headAsked (tables (now (records .entry)) (now (headers .entry))) (now (source .entry)) row first ⌝ }
-{
-    let at = row * RECORD_ROW;
-    let size = source.len();
-    let timestamp_delta = records[at];
-    let offset_delta = records[at + 1];
-    if offset_delta < -0x8000_0000 {
-        return RecordAsked::Wrong;
-    }
-    if 0x7FFF_FFFF < offset_delta {
-        return RecordAsked::Wrong;
-    }
-    let Asked::Got(key) = span_asked(size, records[at + 2], records[at + 3]) else {
-        return RecordAsked::Wrong;
-    };
-    let Asked::Got(value) = span_asked(size, records[at + 4], records[at + 5]) else {
-        return RecordAsked::Wrong;
-    };
-    let rows = headers.len() / HEADER_ROW;
-    let CountAsked::Got(count) = asked_count(rows, first, records[at + 6], records[at + 7]) else {
-        return RecordAsked::Wrong;
-    };
-    RecordAsked::Got(AskedRecord {
-        timestamp_delta,
-        offset_delta: offset_delta as i32,
-        key,
-        value,
-        headers: count,
-    })
-}
-
-fn lesser(a: usize, b: usize) -> usize
-    ensures { λ r. ⌜ r ≡ min a b ⌝ }
-{
-    if a < b { a } else { b }
-}
-
-// The shortest bytes of a number, which are the same of a Varint and of a Varlong.
-fn number_size(n: i64) -> usize
-    ensures { λ r. ⌜ (r ≡ length (shortest n)) × (r ≤ 10) ⌝ }
-{
-    let e = Varlong(n).encode();
-    e.len
-}
-
-// Bytes after their length.
-fn span_size(len: usize) -> usize
-    ensures { λ r. ⌜ r ≡ capped (spanSize len) ⌝ }
-{
-    if CAP <= len {
-        return CAP;
-    }
-    lesser(number_size(len as i64) + len, CAP)
-}
-
 fn shown_size(x: Shown) -> usize
-    ensures { λ r. ⌜ r ≡ capped (nullableSize (spanOf x)) ⌝ }
+    ensures { λ r. ⌜ r ≡ capped (placeSize (lengthIn (spanOf x))) ⌝ }
 {
     match x {
         Shown::Null => 1,
@@ -343,19 +143,19 @@ fn header_size(h: AskedHeader) -> usize
 {
     let key = h.key;
     let value = h.value;
-    lesser(span_size(key.len) + span_size(value.len), CAP)
+    capped(span_size(key.len) + span_size(value.len))
 }
 
 // What follows a record's length, up to its headers.
 fn head_size(r: AskedRecord) -> usize
     requires { ⌜ r .headers < 2 ^ 63 ⌝ }
-    ensures { λ n. ⌜ n ≡ capped (headSize (headOf r)) ⌝ }
+    ensures { λ n. ⌜ n ≡ capped (headOfSize (headOf r)) ⌝ }
 {
     let key = r.key;
     let value = r.value;
     let deltas = number_size(r.timestamp_delta) + number_size(r.offset_delta as i64);
     let bytes = shown_size(key) + shown_size(value);
-    lesser(1 + deltas + bytes + number_size(r.headers as i64), CAP)
+    capped(1 + deltas + bytes + number_size(r.headers as i64))
 }
 
 // The headers of a record.
@@ -370,7 +170,7 @@ fn size_headers(headers: &[i64], source: &[u8], first: usize, count: usize) -> S
         match header_asked(headers, source, row) {
             HeaderAsked::Got(h) => {
                 let n = header_size(h);
-                sum = lesser(sum + n, CAP);
+                sum = capped(sum + n);
             }
             HeaderAsked::Refused(f) => {
                 return Sized::Refused(f);
@@ -385,10 +185,10 @@ fn size_headers(headers: &[i64], source: &[u8], first: usize, count: usize) -> S
 // What follows a record's length.
 fn size_fields(headers: &[i64], source: &[u8], r: AskedRecord, first: usize) -> Sized
     requires { ⌜ first + r .headers ≤ length (now headers) / 4 ⌝ }
-    ensures { λ n. ⌜ viewSized (first + r .headers) n ≡ mapStep (λ hs. capped (fieldsSize (headOf r) hs)) (times (headerAsked (now (headers .entry)) (now (source .entry))) (r .headers) first) ⌝ }
+    ensures { λ n. ⌜ viewSized (first + r .headers) n ≡ mapStep (λ hs. capped (fieldsSize (withHeaders (headOf r) hs))) (times (headerAsked (now (headers .entry)) (now (source .entry))) (r .headers) first) ⌝ }
 {
     match size_headers(headers, source, first, r.headers) {
-        Sized::Size(n) => Sized::Size(lesser(head_size(r) + n, CAP)),
+        Sized::Size(n) => Sized::Size(capped(head_size(r) + n)),
         Sized::Refused(f) => Sized::Refused(f),
     }
 }
@@ -436,7 +236,7 @@ fn size_records(
     while 0 < left {
         match size_record(records, headers, source, row, first) {
             RowSized::Size { bytes, first: next } => {
-                sum = lesser(sum + bytes, CAP);
+                sum = capped(sum + bytes);
                 first = next;
             }
             RowSized::Refused(f) => {

@@ -1,22 +1,25 @@
 -- `batches::check_at` meets its contract. Assumes nothing.
-use borrow.Author.Needs.{needs}
-use Rattle.batches.proofs.Judging.{cut-length}
-use native.Mathlib.Omega.{arith}
+use Rattle.opening.proofs.Judging.{cut-length}
 use Rattle.batches.proofs.Answering.{opened-within, check-more, check-refused, check-marker, check-records-got, check-records-refused}
+use native.Mathlib.Omega.{arith}
+use borrow.Author.Needs.{needs}
 use Rattle.batches.proofs.check_at.Statement.{statement}
 use Rattle.batches.proofs.check_at.Tie as tie
 
 open-at-requires : tie.Need-open-at-requires
 open-at-requires c κs = search needs
 
-enum-known-batch : tie.Need-enum-known-batch
-enum-known-batch c = search needs
+enum-known-fields : tie.Need-enum-known-fields
+enum-known-fields c = search needs
+
+of-requires : tie.Need-of-requires
+of-requires c κs = search needs
 
 add-end : tie.Need-add-end
-add-end c = omega (arith, opened-within _ _ _ (c .before .before .before .open-at .ensures) _ _ _ _ _ (c .before .batch .given .1))
+add-end c = omega (arith, opened-within _ _ _ (c .before .before .before .before .open-at .ensures) _ _ _ _ _ (c .before .before .fields .given .1))
 
 slice-aggregate-check-marker : tie.Need-slice-aggregate-check-marker
-slice-aggregate-check-marker c = cut-length _ _ (opened-within _ _ _ (c .before .before .before .before .before .open-at .ensures) _ _ _ _ _ (c .before .before .before .batch .given .1))
+slice-aggregate-check-marker c = cut-length _ _ (opened-within _ _ _ (c .before .before .before .before .before .before .open-at .ensures) _ _ _ _ _ (c .before .before .before .before .fields .given .1))
 
 check-marker-requires : tie.Need-check-marker-requires
 check-marker-requires c κs = search needs
@@ -25,7 +28,7 @@ returns : tie.Need-returns
 returns c = search check-marker
 
 slice-aggregate-check-records : tie.Need-slice-aggregate-check-records
-slice-aggregate-check-records c = cut-length _ _ (opened-within _ _ _ (c .before .before .before .before .before .open-at .ensures) _ _ _ _ _ (c .before .before .before .batch .given .1))
+slice-aggregate-check-records c = cut-length _ _ (opened-within _ _ _ (c .before .before .before .before .before .before .open-at .ensures) _ _ _ _ _ (c .before .before .before .before .fields .given .1))
 
 check-records-requires : tie.Need-check-records-requires
 check-records-requires c κs = search needs
@@ -59,7 +62,8 @@ check-at-spec =
     tie.close
     (tie.spec
     open-at-requires
-    enum-known-batch
+    enum-known-fields
+    of-requires
     add-end
     slice-aggregate-check-marker
     check-marker-requires

@@ -1,6 +1,6 @@
 -- `batches::of_records` meets its contract. Assumes nothing.
 use mathlib.Core.Path.{sym, ap}
-use Rattle.batches.specs.Opening.{ofRecordsRead}
+use Rattle.batches.specs.Reading.{ofRecordsRead}
 use borrow.Author.Needs.{needs}
 use Rattle.batches.proofs.of_records.Statement.{statement}
 use Rattle.batches.proofs.of_records.Tie as tie

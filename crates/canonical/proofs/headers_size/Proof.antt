@@ -5,7 +5,8 @@ use mathlib.Core.Path.{_≡_, refl}
 use native.Mathlib.Omega.{arith}
 use Rattle.primitives.specs.Step.{mapStep, times}
 use Rattle.records.specs.Judgement.{headerAt}
-use Rattle.canonical.specs.Tight.{cap, headersOnto}
+use Rattle.sizes.specs.Sizes.{cap}
+use Rattle.canonical.specs.Tight.{headersOnto}
 use Rattle.canonical.proofs.SizeSteps.{headers-stop, headers-turn, headers-end}
 use Rattle.canonical.proofs.headers_size.Statement.{statement}
 use Rattle.canonical.proofs.headers_size.Tie as tie

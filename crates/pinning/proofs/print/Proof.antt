@@ -3,7 +3,7 @@
 use native.Mathlib.Omega.{arith}
 use borrow.Author.Needs.{needs}
 use lib.ListN.{length-take}
-use Rattle.pinning.proofs.Within.{within}
+use Rattle.writing.proofs.Outcomes.{within}
 use Rattle.pinning.proofs.print.Statement.{statement}
 use Rattle.pinning.proofs.print.Tie as tie
 

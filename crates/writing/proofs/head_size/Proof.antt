@@ -25,11 +25,11 @@ shown-size-requires-2 c κs = search needs
 add-bytes : tie.Need-add-bytes
 add-bytes c = search needs
 
-add-lesser : tie.Need-add-lesser
-add-lesser c = search needs
+add-capped : tie.Need-add-capped
+add-capped c = search needs
 
-add-lesser-2 : tie.Need-add-lesser-2
-add-lesser-2 c = search needs
+add-capped-2 : tie.Need-add-capped-2
+add-capped-2 c = search needs
 
 cast-number-size-2 : tie.Need-cast-number-size-2
 cast-number-size-2 c = search needs
@@ -37,11 +37,11 @@ cast-number-size-2 c = search needs
 number-size-requires-3 : tie.Need-number-size-requires-3
 number-size-requires-3 c κs = search needs
 
-add-lesser-3 : tie.Need-add-lesser-3
-add-lesser-3 c = search needs
+add-capped-3 : tie.Need-add-capped-3
+add-capped-3 c = search needs
 
-lesser-requires : tie.Need-lesser-requires
-lesser-requires c κs = search needs
+capped-requires : tie.Need-capped-requires
+capped-requires c κs = search needs
 
 returns : tie.Need-returns
 returns c =
@@ -49,8 +49,8 @@ returns c =
     let e = d .before .before in
     let start = e .before .before .before .before .before in
     head-sized (start .args .r) (search needs) (search needs) (start .pre) _ _ _ _ _ _
-    (e .before .before .before .number-size .ensures .0) (e .number-size2 .ensures .0) (d .before .shown-size .ensures)
-    (d .shown-size2 .ensures) (c .before .number-size3 .ensures .0) (c .lesser .ensures)
+    (e .before .before .before .number-size .ensures) (e .number-size2 .ensures) (d .before .shown-size .ensures)
+    (d .shown-size2 .ensures) (c .before .number-size3 .ensures) (c .capped .ensures)
 
 pub head-size-spec : {M : Type 1} → statement M
 head-size-spec =
@@ -63,10 +63,10 @@ head-size-spec =
     shown-size-requires
     shown-size-requires-2
     add-bytes
-    add-lesser
-    add-lesser-2
+    add-capped
+    add-capped-2
     cast-number-size-2
     number-size-requires-3
-    add-lesser-3
-    lesser-requires
+    add-capped-3
+    capped-requires
     returns)

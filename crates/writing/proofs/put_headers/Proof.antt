@@ -1,7 +1,7 @@
 -- `writing::put_headers` meets its contract. Assumes nothing.
-use Rattle.writing.proofs.HeaderRows.{header-inside}
+use Rattle.writing.proofs.Inside.{header-inside}
 use Rattle.writing.proofs.Loops.{rest, headersOn, header-stop, headers-turn, headers-end}
-use Rattle.writing.specs.Asked.{headerAsked}
+use Rattle.asking.specs.Asked.{headerAsked}
 use Rattle.records.specs.Written.{writtenHeaders}
 use Rattle.records.specs.Placed.{shownHeader}
 use Rattle.primitives.specs.Step.{mapStep, times}
@@ -60,7 +60,7 @@ loop-again c =
     let h = put .before .before .before in
     let read = h .before .before in
     let l = read .before .before in (
-      headers-turn _ _ _ _ _ _ _ _ _ (l .loop .inv .0) (read .before .loop-test .taken) (read .header-asked .ensures) (h .h .given .1)
+      headers-turn _ _ _ _ _ _ _ _ _ _ (l .loop .inv .0) (read .before .loop-test .taken) (l .loop .inv .1) (l .before .before .before .pre) (read .header-asked .ensures) (h .h .given .1)
           (put .put-header .ensures),
       omega arith,
       put .put-header .kept .1 .1 .0 ∙ l .loop .inv .2,

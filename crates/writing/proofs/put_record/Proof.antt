@@ -17,13 +17,13 @@ add-next : tie.Need-add-next
 add-next c =
     let r = c .before .before in
     let start = r .before .before .before .before .before in
-    omega (arith, head-sound (tables (now (start .args .records)) (now (start .args .headers))) (now (start .args .source)) _ _ _ _ (r .before .before .record-asked .ensures) (r .r .given .1) .room)
+    omega (arith, head-sound (tables (now (start .args .records)) (now (start .args .headers))) (now (start .args .source)) _ _ _ _ (start .pre) (r .before .before .record-asked .ensures) (r .r .given .1) .room)
 
 size-fields-requires : tie.Need-size-fields-requires
 size-fields-requires c κs =
     let r = c .before .before in
     let start = r .before .before .before .before .before in
-    head-sound (tables (now (start .args .records)) (now (start .args .headers))) (now (start .args .source)) _ _ _ _ (r .before .before .record-asked .ensures) (r .r .given .1) .room
+    head-sound (tables (now (start .args .records)) (now (start .args .headers))) (now (start .args .source)) _ _ _ _ (start .pre) (r .before .before .record-asked .ensures) (r .r .given .1) .room
 
 enum-known-n : tie.Need-enum-known-n
 enum-known-n c = search needs
@@ -33,7 +33,7 @@ put-fields-requires c κs =
     let n = c .before .before in
     let r = n .before .before .before .before .before in
     let start = r .before .before .before .before .before in
-    let sound = head-sound (tables (now (start .args .records)) (now (start .args .headers))) (now (start .args .source)) _ _ _ _ (r .before .before .record-asked .ensures) (r .r .given .1) in
+    let sound = head-sound (tables (now (start .args .records)) (now (start .args .headers))) (now (start .args .source)) _ _ _ _ (start .pre) (r .before .before .record-asked .ensures) (r .r .given .1) in
     let small = fields-small (r .r .given .0 .0) _ _ _ _ _ _ _ (n .before .before .size-fields .ensures) (n .n .given .1) in
     (omega (arith, small), sound .room, sound .key, sound .value)
 
@@ -58,7 +58,7 @@ returns c =
     let n = at .before .before .before .before .before .before .before in
     let r = n .before .before .before .before .before in
     let start = r .before .before .before .before .before in
-    row-put (tables (now (start .args .records)) (now (start .args .headers))) (now (start .args .source)) _ _ _ (r .before .before .record-asked .ensures) _ (r .r .given .1) _ _
+    row-put (tables (now (start .args .records)) (now (start .args .headers))) (now (start .args .source)) _ _ _ (start .pre) (r .before .before .record-asked .ensures) _ (r .r .given .1) _ _
     (n .before .before .size-fields .ensures) _ (n .n .given .1) _ _ _ (at .before .before .before .before .put-fields .ensures) _ (at .at .given .1)
 
 same-length-2 : tie.Need-same-length-2
@@ -70,7 +70,7 @@ returns-2 c =
     let n = f .before .before .before .before .before .before .before in
     let r = n .before .before .before .before .before in
     let start = r .before .before .before .before .before in
-    row-put-refused (tables (now (start .args .records)) (now (start .args .headers))) (now (start .args .source)) _ _ _ (r .before .before .record-asked .ensures) _ (r .r .given .1) _ _
+    row-put-refused (tables (now (start .args .records)) (now (start .args .headers))) (now (start .args .source)) _ _ _ (start .pre) (r .before .before .record-asked .ensures) _ (r .r .given .1) _ _
     (n .before .before .size-fields .ensures) _ (n .n .given .1) _ _ _ (f .before .before .before .before .put-fields .ensures) _ (f .f .given .1)
 
 returns-3 : tie.Need-returns-3
@@ -78,14 +78,14 @@ returns-3 c =
     let f = c .before in
     let r = f .before .before .before .before .before in
     let start = r .before .before .before .before .before in
-    row-refused (tables (now (start .args .records)) (now (start .args .headers))) (now (start .args .source)) _ _ _ (r .before .before .record-asked .ensures) _ (r .r .given .1) _ _
+    row-refused (tables (now (start .args .records)) (now (start .args .headers))) (now (start .args .source)) _ _ _ (start .pre) (r .before .before .record-asked .ensures) _ (r .r .given .1) _ _
     (f .before .before .size-fields .ensures) _ _ (f .f2 .given .1)
 
 returns-4 : tie.Need-returns-4
 returns-4 c =
     let a = c .before .before in
     let start = a .before .before .before in
-    row-wrong (tables (now (start .args .records)) (now (start .args .headers))) (now (start .args .source)) _ _ _ (a .record-asked .ensures) _ (c .enum-told .given .1)
+    row-wrong (tables (now (start .args .records)) (now (start .args .headers))) (now (start .args .source)) _ _ _ (start .pre) (a .record-asked .ensures) _ (c .enum-told .given .1)
 
 pub put-record-spec : {M : Type 1} → statement M
 put-record-spec =

@@ -1,7 +1,7 @@
 -- `writing::put_records` meets its contract. Assumes nothing.
 use Rattle.writing.proofs.Loops.{rest, recordsOn, records-turn, records-stop, records-end}
 use Rattle.writing.specs.Put.{cappedRecords}
-use Rattle.writing.specs.Asked.{rowPlace, recordAsked}
+use Rattle.asking.specs.Asked.{rowPlace, recordAsked}
 use Rattle.records.specs.Rows.{tables}
 use Rattle.primitives.specs.Step.{mapStep, times}
 use Rattle.primitives.specs.Pen.{pen, emit}

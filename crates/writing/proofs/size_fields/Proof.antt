@@ -15,14 +15,14 @@ enum-known-n c = search needs
 head-size-requires : tie.Need-head-size-requires
 head-size-requires c κs = search needs
 
-add-lesser : tie.Need-add-lesser
-add-lesser c =
+add-capped : tie.Need-add-capped
+add-capped c =
     let n = c .before .before in
     let start = n .before .before .before .before in
-    omega (arith, c .head-size .ensures, headers-small (start .args .r) _ _ _ _ _ _ (n .before .before .size-headers .ensures) _ (n .n .given .1))
+    omega (arith, c .head-size .ensures, headers-small (start .args .r) _ _ _ _ _ (n .before .before .size-headers .ensures) _ (n .n .given .1))
 
-lesser-requires : tie.Need-lesser-requires
-lesser-requires c κs = search needs
+capped-requires : tie.Need-capped-requires
+capped-requires c κs = search needs
 
 enum-known-f : tie.Need-enum-known-f
 enum-known-f c = search needs
@@ -31,12 +31,12 @@ returns : tie.Need-returns
 returns c =
     let n = c .before .before .before in
     let start = n .before .before .before .before in
-    fields-sized (start .args .r) _ _ _ _ _ _ (n .before .before .size-headers .ensures) _ _ _ (n .n .given .1) (c .before .head-size .ensures) (c .lesser .ensures)
+    fields-sized (start .args .r) _ _ _ _ _ (n .before .before .size-headers .ensures) _ _ _ (n .n .given .1) (c .before .head-size .ensures) (c .capped .ensures)
 
 returns-2 : tie.Need-returns-2
 returns-2 c =
     let start = c .before .before .before .before .before in
-    fields-refused (start .args .r) _ _ _ _ _ _ (c .before .before .before .size-headers .ensures) _ (c .before .f .given .1)
+    fields-refused (start .args .r) _ _ _ _ _ (c .before .before .before .size-headers .ensures) _ (c .before .f .given .1)
 
 pub size-fields-spec : {M : Type 1} → statement M
 size-fields-spec =
@@ -45,8 +45,8 @@ size-fields-spec =
     size-headers-requires
     enum-known-n
     head-size-requires
-    add-lesser
-    lesser-requires
+    add-capped
+    capped-requires
     enum-known-f
     returns
     returns-2)

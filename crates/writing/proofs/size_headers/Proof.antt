@@ -1,7 +1,7 @@
 -- `writing::size_headers` meets its contract. Assumes nothing.
 use Rattle.writing.proofs.Loops.{rest, sizesOn, header-stop, sizes-start, sizes-turn, sizes-end}
-use Rattle.writing.specs.Sizes.{headersSize, cap, capped}
-use Rattle.writing.specs.Asked.{headerAsked}
+use Rattle.sizes.specs.Sizes.{headersSize, cap, capped}
+use Rattle.asking.specs.Asked.{headerAsked}
 use Rattle.primitives.specs.Step.{mapStep, times}
 use borrow.Author.Needs.{needs}
 use native.Mathlib.Omega.{arith}
@@ -30,11 +30,11 @@ enum-known-h c = search needs
 header-size-requires : tie.Need-header-size-requires Inv-loop μ-loop
 header-size-requires c κs = search needs
 
-add-lesser : tie.Need-add-lesser Inv-loop μ-loop
-add-lesser c = search needs
+add-capped : tie.Need-add-capped Inv-loop μ-loop
+add-capped c = search needs
 
-lesser-requires : tie.Need-lesser-requires Inv-loop μ-loop
-lesser-requires c κs = search needs
+capped-requires : tie.Need-capped-requires Inv-loop μ-loop
+capped-requires c κs = search needs
 
 enum-known-f : tie.Need-enum-known-f Inv-loop μ-loop
 enum-known-f c = search needs
@@ -71,8 +71,8 @@ size-headers-spec =
     header-asked-requires
     enum-known-h
     header-size-requires
-    add-lesser
-    lesser-requires
+    add-capped
+    capped-requires
     enum-known-f
     returns
     add-row

@@ -17,13 +17,13 @@ add-next : tie.Need-add-next
 add-next c =
     let r = c .before .before in
     let start = r .before .before .before .before in
-    omega (arith, head-sound (tables (now (start .args .records)) (now (start .args .headers))) (now (start .args .source)) _ _ _ _ (r .before .before .record-asked .ensures) (r .r .given .1) .room)
+    omega (arith, head-sound (tables (now (start .args .records)) (now (start .args .headers))) (now (start .args .source)) _ _ _ _ (start .pre) (r .before .before .record-asked .ensures) (r .r .given .1) .room)
 
 size-fields-requires : tie.Need-size-fields-requires
 size-fields-requires c κs =
     let r = c .before .before in
     let start = r .before .before .before .before in
-    head-sound (tables (now (start .args .records)) (now (start .args .headers))) (now (start .args .source)) _ _ _ _ (r .before .before .record-asked .ensures) (r .r .given .1) .room
+    head-sound (tables (now (start .args .records)) (now (start .args .headers))) (now (start .args .source)) _ _ _ _ (start .pre) (r .before .before .record-asked .ensures) (r .r .given .1) .room
 
 enum-known-n : tie.Need-enum-known-n
 enum-known-n c = search needs
@@ -42,7 +42,7 @@ returns c =
     let n = c .before .before in
     let r = n .before .before .before .before .before in
     let start = r .before .before .before .before in
-    row-sized (tables (now (start .args .records)) (now (start .args .headers))) (now (start .args .source)) _ _ _ (r .before .before .record-asked .ensures) _ (r .r .given .1) _ _
+    row-sized (tables (now (start .args .records)) (now (start .args .headers))) (now (start .args .source)) _ _ _ (start .pre) (r .before .before .record-asked .ensures) _ (r .r .given .1) _ _
     (n .before .before .size-fields .ensures) _ (n .n .given .1) _ (c .span-size .ensures)
 
 returns-2 : tie.Need-returns-2
@@ -50,14 +50,14 @@ returns-2 c =
     let f = c .before in
     let r = f .before .before .before .before .before in
     let start = r .before .before .before .before in
-    row-refused (tables (now (start .args .records)) (now (start .args .headers))) (now (start .args .source)) _ _ _ (r .before .before .record-asked .ensures) _ (r .r .given .1) _ _
+    row-refused (tables (now (start .args .records)) (now (start .args .headers))) (now (start .args .source)) _ _ _ (start .pre) (r .before .before .record-asked .ensures) _ (r .r .given .1) _ _
     (f .before .before .size-fields .ensures) _ _ (f .f .given .1)
 
 returns-3 : tie.Need-returns-3
 returns-3 c =
     let a = c .before .before in
     let start = a .before .before in
-    row-wrong (tables (now (start .args .records)) (now (start .args .headers))) (now (start .args .source)) _ _ _ (a .record-asked .ensures) _ (c .enum-told .given .1)
+    row-wrong (tables (now (start .args .records)) (now (start .args .headers))) (now (start .args .source)) _ _ _ (start .pre) (a .record-asked .ensures) _ (c .enum-told .given .1)
 
 pub size-record-spec : {M : Type 1} → statement M
 size-record-spec =

@@ -1,7 +1,7 @@
 -- `writing::size_records` meets its contract. Assumes nothing.
 use Rattle.writing.proofs.Loops.{rest, recordSizesOn, record-sizes-start, record-size-small, record-sizes-turn, record-sizes-stop, record-sizes-end}
-use Rattle.writing.specs.Sizes.{recordsSize, cap, capped}
-use Rattle.writing.specs.Asked.{rowPlace, recordAsked}
+use Rattle.sizes.specs.Sizes.{recordsSize, cap, capped}
+use Rattle.asking.specs.Asked.{rowPlace, recordAsked}
 use Rattle.records.specs.Rows.{tables}
 use Rattle.primitives.specs.Step.{mapStep, times}
 use denote.Ref.{now}
@@ -30,15 +30,15 @@ size-record-requires c κs = omega arith
 enum-known-bytes : tie.Need-enum-known-bytes Inv-loop μ-loop
 enum-known-bytes c = search needs
 
-add-lesser : tie.Need-add-lesser Inv-loop μ-loop
-add-lesser c =
+add-capped : tie.Need-add-capped Inv-loop μ-loop
+add-capped c =
     let d = c .before in
     let row = d .before .before in
     let start = row .before .before .before .before in
     omega (arith, record-size-small (tables (now (start .args .records)) (now (start .args .headers))) (now (start .args .source)) _ _ _ (row .size-record .ensures) _ _ (d .bytes .given .1))
 
-lesser-requires : tie.Need-lesser-requires Inv-loop μ-loop
-lesser-requires c κs = search needs
+capped-requires : tie.Need-capped-requires Inv-loop μ-loop
+capped-requires c κs = search needs
 
 enum-known-f : tie.Need-enum-known-f Inv-loop μ-loop
 enum-known-f c = search needs
@@ -67,9 +67,9 @@ loop-again c =
     let l = row .before .before in
     let start = l .before .before in (
       record-sizes-turn (tables (now (start .args .records)) (now (start .args .headers))) (now (start .args .source)) _ _ _ (row .size-record .ensures) _ _ _ _ _ _ (l .loop .inv .0)
-          (row .before .loop-test .taken) (d .bytes .given .1) (c .lesser .ensures),
+          (row .before .loop-test .taken) (d .bytes .given .1) (c .capped .ensures),
       omega arith,
-      omega (arith, c .lesser .ensures),
+      omega (arith, c .capped .ensures),
     )
 
 returns-2 : tie.Need-returns-2 Inv-loop μ-loop
@@ -88,8 +88,8 @@ size-records-spec =
     loop-holds
     size-record-requires
     enum-known-bytes
-    add-lesser
-    lesser-requires
+    add-capped
+    capped-requires
     enum-known-f
     returns
     add-row

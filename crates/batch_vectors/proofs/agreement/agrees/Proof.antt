@@ -27,23 +27,11 @@ slice-aggregate-same-2 c = search needs
 same-requires-2 : tie.Need-same-requires-2
 same-requires-2 c κs = search needs
 
-totals-requires : tie.Need-totals-requires
-totals-requires c κs = search needs
-
-returns-2 : tie.Need-returns-2
-returns-2 c = search needs
-
-slice-aggregate-same-3 : tie.Need-slice-aggregate-same-3
-slice-aggregate-same-3 c = search needs
-
-same-requires-3 : tie.Need-same-requires-3
-same-requires-3 c κs = search needs
-
 agrees-requires-2 : tie.Need-agrees-requires-2
 agrees-requires-2 c κs = search needs
 
-returns-3 : tie.Need-returns-3
-returns-3 c = search needs
+returns-2 : tie.Need-returns-2
+returns-2 c = search needs
 
 word-requires-2 : tie.Need-word-requires-2
 word-requires-2 c κs = search needs
@@ -60,14 +48,14 @@ enum-told c = search needs
 same-length : tie.Need-same-length
 same-length c = search needs
 
-returns-4 : tie.Need-returns-4
-returns-4 c = search needs
+returns-3 : tie.Need-returns-3
+returns-3 c = search needs
 
 same-length-2 : tie.Need-same-length-2
 same-length-2 c = search needs
 
-returns-5 : tie.Need-returns-5
-returns-5 c = search needs
+returns-4 : tie.Need-returns-4
+returns-4 c = search needs
 
 slice-reshare-prefix-answered : tie.Need-slice-reshare-prefix-answered
 slice-reshare-prefix-answered c = search needs
@@ -81,8 +69,8 @@ answered-requires c κs = search needs
 same-length-3 : tie.Need-same-length-3
 same-length-3 c = search needs
 
-returns-6 : tie.Need-returns-6
-returns-6 c = search needs
+returns-5 : tie.Need-returns-5
+returns-5 c = search needs
 
 pub agrees-spec : {M : Type 1} → statement M
 agrees-spec =
@@ -95,22 +83,18 @@ agrees-spec =
     returns
     slice-aggregate-same-2
     same-requires-2
-    totals-requires
-    returns-2
-    slice-aggregate-same-3
-    same-requires-3
     agrees-requires-2
-    returns-3
+    returns-2
     word-requires-2
     hexadecimal-requires
     enum-known-count
     enum-told
     same-length
-    returns-4
+    returns-3
     same-length-2
-    returns-5
+    returns-4
     slice-reshare-prefix-answered
     slice-aggregate-answered
     answered-requires
     same-length-3
-    returns-6)
+    returns-5)

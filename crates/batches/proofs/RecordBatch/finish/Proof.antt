@@ -1,17 +1,29 @@
 -- `batches::RecordBatch::finish` meets its contract. Assumes nothing.
-use borrow.Author.Needs.{needs}
 use Rattle.batches.proofs.Putting.{finish-put}
+use borrow.Author.Needs.{needs}
 use Rattle.batches.proofs.RecordBatch.finish.Statement.{statement}
 use Rattle.batches.proofs.RecordBatch.finish.Tie as tie
 
-sub-fixed-before : tie.Need-sub-fixed-before
-sub-fixed-before c = search needs
+fields-requires : tie.Need-fields-requires
+fields-requires c κs = search needs
 
-part-fixed-before-start : tie.Need-part-fixed-before-start
-part-fixed-before-start c = search needs
+attributes-requires : tie.Need-attributes-requires
+attributes-requires c κs = search needs
 
-part-fixed-before-end : tie.Need-part-fixed-before-end
-part-fixed-before-end c = search needs
+sub-t11 : tie.Need-sub-t11
+sub-t11 c = search needs
+
+cast-t12 : tie.Need-cast-t12
+cast-t12 c = search needs
+
+sub-body : tie.Need-sub-body
+sub-body c = search needs
+
+part-body-start : tie.Need-part-body-start
+part-body-start c = search needs
+
+part-body-end : tie.Need-part-body-end
+part-body-end c = search needs
 
 fixed-before-requires : tie.Need-fixed-before-requires
 fixed-before-requires c κs = search needs
@@ -32,9 +44,13 @@ pub finish-spec : {M : Type 1} → statement M
 finish-spec =
     tie.close
     (tie.spec
-    sub-fixed-before
-    part-fixed-before-start
-    part-fixed-before-end
+    fields-requires
+    attributes-requires
+    sub-t11
+    cast-t12
+    sub-body
+    part-body-start
+    part-body-end
     fixed-before-requires
     slice-aggregate-put
     put-requires

@@ -1,14 +1,11 @@
 -- `batches::RecordBatch::write_marker` meets its contract. Assumes nothing.
-use borrow.Author.Needs.{needs}
 use Rattle.batches.proofs.Giving.{marker-short, marker-written}
+use borrow.Author.Needs.{needs}
 use Rattle.batches.proofs.RecordBatch.write_marker.Statement.{statement}
 use Rattle.batches.proofs.RecordBatch.write_marker.Tie as tie
 
 returns : tie.Need-returns
 returns c = search (marker-short, needs)
-
-attributes-requires : tie.Need-attributes-requires
-attributes-requires c κs = search needs
 
 put-requires : tie.Need-put-requires
 put-requires c κs = search needs
@@ -23,6 +20,4 @@ returns-2 : tie.Need-returns-2
 returns-2 c = search (marker-written, needs)
 
 pub write-marker-spec : {M : Type 1} → statement M
-write-marker-spec =
-    tie.close
-    (tie.spec returns attributes-requires put-requires finish-requires same-length returns-2)
+write-marker-spec = tie.close (tie.spec returns put-requires finish-requires same-length returns-2)

@@ -3,7 +3,7 @@ use Prim.Native.Nat.{_+_, _^_, _≤_, _<_}
 use native.Mathlib.Omega.{arith}
 use lib.ListN.{length}
 use Rattle.writing.specs.Answers.{mostBytes}
-use Rattle.batches.specs.Table.{fixedPart}
+use Rattle.layout.specs.Table.{fixedPart}
 use Rattle.batches.specs.Answers.{viewFields}
 use borrow.Author.Needs.{needs}
 use Rattle.batches.proofs.Giving.{rows-refused, rows-sizes, rows-written}
@@ -27,14 +27,11 @@ sizes c =
 add-end : tie.Need-add-end
 add-end c = record { fits = omega (arith, sizes c .0) }
 
-attributes-requires : tie.Need-attributes-requires
-attributes-requires c κs = search needs
-
-cast-t16 : tie.Need-cast-t16
-cast-t16 c = record { sfits = sizes (c .before) .2 }
+cast-t15 : tie.Need-cast-t15
+cast-t15 c = record { sfits = sizes c .2 }
 
 finish-requires : tie.Need-finish-requires
-finish-requires c κs = let w = sizes (c .before .before) in (omega arith, omega (arith, w .0), w .1)
+finish-requires c κs = let w = sizes (c .before) in (omega arith, omega (arith, w .0), w .1)
 
 enum-known-f : tie.Need-enum-known-f
 enum-known-f c = search needs
@@ -58,8 +55,7 @@ write-rows-spec =
     write-records-requires
     enum-known-size
     add-end
-    attributes-requires
-    cast-t16
+    cast-t15
     finish-requires
     enum-known-f
     same-length

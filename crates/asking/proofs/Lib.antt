@@ -1,0 +1,9 @@
+pub mod Accepted
+mod Asks
+mod HeaderRows
+pub mod Own
+mod RecordRows
+pub mod Refusals
+pub mod Single
+pub mod There
+pub mod Writable

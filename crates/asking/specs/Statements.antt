@@ -1,0 +1,12 @@
+-- The laws of what rows ask for, each in words and then as a statement. What proves each stands in proofs/ under the
+-- statement's name in small letters: `rows-refused : RowsRefused`.
+use Prim.Native.Nat.{ℕ, _≤_}
+use mathlib.Core.Path.{_≡_}
+use mathlib.Core.List.{List}
+use Rattle.primitives.specs.Step.{no}
+use Rattle.records.specs.Rows.{Tables}
+use Rattle.asking.specs.Asked.{recordsAsked}
+
+-- Rows are refused by none but the numbers 21 and 22.
+abbrev pub RowsRefused : Type 0
+RowsRefused = (t : Tables) (s : List ℕ) (first count n : ℕ) → recordsAsked t s first count ≡ no n → (21 ≤ n) × (n ≤ 22)

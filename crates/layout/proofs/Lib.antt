@@ -1,0 +1,4 @@
+pub mod Flags
+pub mod Putting
+pub mod Single
+pub mod Table

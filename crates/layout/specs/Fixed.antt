@@ -1,0 +1,79 @@
+-- The fixed fields as they are written, one after the other, with the checksum worked out.
+use Prim.Native.Nat.{ℕ, _+_, _*_}
+use mathlib.Core.Bool.{Bool}
+use mathlib.Core.List.{List, [], _∷_, _++_}
+use lib.IntN.{ℤ, pos}
+use Rattle.primitives.specs.Format.{bigEndian, complement}
+use Rattle.crc32c.specs.Crc.{crc32c}
+use Rattle.layout.specs.declared.RecordBatchTimestampType.{RecordBatchTimestampType}
+use Rattle.layout.specs.declared.BatchFields.{BatchFields}
+use Rattle.layout.specs.Table.{table}
+use Rattle.layout.specs.Batch.{TimestampType, createTime, logAppendTime, Fields}
+use Rattle.layout.specs.Format.{concat, timestampBit, bit}
+
+-- ---- what the structs say
+
+abbrev pub viewType : RecordBatchTimestampType → TimestampType
+viewType RecordBatchTimestampType.CreateTime = createTime
+viewType RecordBatchTimestampType.LogAppendTime = logAppendTime
+
+abbrev pub viewBatchFields : BatchFields → Fields
+viewBatchFields x =
+    record {
+      baseOffset = x .«base_offset»;
+      partitionLeaderEpoch = x .«partition_leader_epoch»;
+      lastOffsetDelta = x .times .«last_offset_delta»;
+      firstTimestamp = x .times .«first_timestamp»;
+      maxTimestamp = x .times .«max_timestamp»;
+      producerId = x .producer .id;
+      producerEpoch = x .producer .epoch;
+      baseSequence = x .producer .«base_sequence»;
+      timestampType = viewType (x .«timestamp_type»);
+      transactional = x .«is_transactional»;
+    }
+
+-- ---- their bytes
+
+-- a signed integer of n bytes
+abbrev pub signed : ℕ → ℤ → List ℕ
+signed n z = bigEndian n (complement (8 * n) z)
+
+-- the attributes of a batch that is a control batch, or is not
+abbrev pub attributesFor : Fields → Bool → ℕ
+attributesFor x control = 8 * timestampBit (x .timestampType) + 16 * bit (x .transactional) + 32 * bit control
+
+-- the fixed fields up to the checksum
+unfoldable pub frameBytes : Fields → ℤ → ℕ → List ℕ
+frameBytes x batchLength crc =
+    concat (
+    signed (table .baseOffset .bytes) (x .baseOffset) ∷ signed (table .batchLength .bytes) batchLength
+    ∷ signed (table .partitionLeaderEpoch .bytes) (x .partitionLeaderEpoch) ∷ signed (table .magic .bytes) (pos 2)
+    ∷ bigEndian (table .crc .bytes) crc ∷ []
+    )
+
+-- those that the checksum is over, in two parts
+unfoldable pub timesBytes : Fields → ℤ → List ℕ
+timesBytes x attributes =
+    concat (
+    signed (table .attributes .bytes) attributes ∷ signed (table .lastOffsetDelta .bytes) (x .lastOffsetDelta)
+    ∷ signed (table .firstTimestamp .bytes) (x .firstTimestamp) ∷ signed (table .maxTimestamp .bytes) (x .maxTimestamp) ∷ []
+    )
+
+unfoldable pub producerBytes : Fields → ℤ → List ℕ
+producerBytes x count =
+    concat (
+    signed (table .producerId .bytes) (x .producerId) ∷ signed (table .producerEpoch .bytes) (x .producerEpoch)
+    ∷ signed (table .baseSequence .bytes) (x .baseSequence) ∷ signed (table .count .bytes) count ∷ []
+    )
+
+abbrev pub checkedPart : Fields → ℤ → ℤ → List ℕ
+checkedPart x attributes count = timesBytes x attributes ++ producerBytes x count
+
+-- all of them
+abbrev pub fixedBytes : Fields → ℤ → ℕ → ℤ → ℤ → List ℕ
+fixedBytes x batchLength crc attributes count = frameBytes x batchLength crc ++ checkedPart x attributes count
+
+-- all of them before a body, whose bytes the checksum is over too
+unfoldable pub fixedBefore : Fields → (batchLength attributes count : ℤ) → List ℕ → List ℕ
+fixedBefore x batchLength attributes count body =
+    fixedBytes x batchLength (crc32c (checkedPart x attributes count ++ body)) attributes count

@@ -1,0 +1,19 @@
+-- What each public function promises of its result, for every input. What is lent is lent to be read: no function here can
+-- change it.
+use Prim.Native.Nat.{ℕ}
+use mathlib.Core.Path.{_≡_}
+use mathlib.Core.Bool.{Bool}
+use mathlib.Core.List.{List}
+use lib.IntN.{ℤ, pos}
+use Rattle.primitives.specs.declared.Int16.{Int16}
+use Rattle.layout.specs.declared.BatchFields.{BatchFields}
+use Rattle.layout.specs.Fixed.{viewBatchFields, attributesFor, fixedBefore}
+
+-- BatchFields::attributes, of a batch that is a control batch, or is not
+abbrev pub AttributesPromise : BatchFields → Bool → Int16 → Type 0
+AttributesPromise x control r = r .0 ≡ pos (attributesFor (viewBatchFields x) control)
+
+-- BatchFields::fixed_before, of batchLength, attributes and count as they are put, and of a body
+abbrev pub FixedBeforePromise : BatchFields → (batchLength attributes count : ℤ) → List ℕ → List ℕ → Type 0
+FixedBeforePromise x batchLength attributes count body r =
+    r ≡ fixedBefore (viewBatchFields x) batchLength attributes count body

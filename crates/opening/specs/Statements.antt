@@ -1,0 +1,22 @@
+-- The laws of what is known before the marker or the records, each in words and then as a statement. What proves each
+-- stands in proofs/ under the statement's name in small letters: `judged-by-opening : JudgedByOpening`.
+use Prim.Native.Nat.{ℕ, _+_, _≤_}
+use mathlib.Core.Path.{_≡_}
+use mathlib.Core.List.{List}
+use lib.ListN.{length}
+use Rattle.layout.specs.Table.{fixedPart}
+use Rattle.opening.specs.Judgement.{accepted, Control, judgeWith}
+use Rattle.opening.specs.Opened.{KnownAt, openAt, judgedFrom}
+
+-- The judgement is what is known before the marker or the records, and then what these say.
+abbrev pub JudgedByOpening : Type 0
+JudgedByOpening = (way : Control) (s : List ℕ) (at first : ℕ) → judgeWith way s at first ≡ judgedFrom way s at first (openAt s at)
+
+-- What is known has all bytes of its batch there, and the fixed fields lie within them.
+pub record Inside (s : List ℕ) (at : ℕ) (o : KnownAt) : Type 0 where
+  pub next : o .next ≡ at + fixedPart
+  pub fixed : fixedPart ≤ o .total
+  pub end : at + o .total ≤ length s
+
+abbrev pub OpenedInside : Type 0
+OpenedInside = (s : List ℕ) (at : ℕ) (o : KnownAt) → openAt s at ≡ accepted o → Inside s at o

@@ -1,0 +1,4 @@
+pub mod Answers
+pub mod Promises
+pub mod Statements
+pub mod Walk

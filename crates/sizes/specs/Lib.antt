@@ -1,0 +1,4 @@
+pub mod Inside
+pub mod Promises
+pub mod Sizes
+pub mod Statements
