@@ -2,7 +2,6 @@
 use batches::BatchCheck;
 use batches::BatchRead;
 use batches::ControlBatchOrRecords;
-use batches::ControlBatchRecord;
 use batches::RecordBatch;
 use cases::tables::HEADER_MARK;
 use cases::tables::MOST;
@@ -18,6 +17,7 @@ use cases::text::unsigned;
 use cases::text::word;
 use cases::text::words_from;
 use layout::RecordBatchTimestampType;
+use markers::ControlBatchRecord;
 use opening::BatchFault;
 
 // An answer is document 01's number and the numbers that are returned with it, 15 at most, and then UNNAMED.

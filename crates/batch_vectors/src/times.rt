@@ -1,12 +1,12 @@
 // What follows from the numbers of a batch: the time of a record.
 use batches::RecordBatch;
-use batches::RecordTime;
 use cases::integer::Integer;
 use cases::text::Number;
 use cases::text::decimal;
 use cases::text::word;
 use cases::text::words;
 use layout::RecordBatchTimestampType;
+use layout::RecordTime;
 
 // time FIRST DELTA [TIME]
 pub fn agrees(line: &[u8]) -> bool {

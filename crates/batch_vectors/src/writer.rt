@@ -1,7 +1,6 @@
 // Batches and records that are written: what is answered, and every byte of the output afterwards, whatever its room.
 use batches::BatchRead;
 use batches::ControlBatchOrRecords;
-use batches::ControlBatchRecord;
 use batches::RecordBatch;
 use canonical::canonical_records;
 use cases::integer::Integer;
@@ -16,6 +15,7 @@ use cases::text::hexadecimal;
 use cases::text::word;
 use cases::text::words_from;
 use layout::RecordBatchTimestampType;
+use markers::ControlBatchRecord;
 use writing::Written;
 use writing::measure_records;
 use writing::write_records;

@@ -15,10 +15,11 @@ use Rattle.writing.specs.Answers.{given, measured}
 use Rattle.writing.proofs.Single.{single-written}
 use Rattle.layout.specs.Batch.{Fields, Content, control, records}
 use Rattle.opening.specs.Judgement.{accepted, Accepted, Judgement, judge}
+use Rattle.markers.specs.Markers.{viewMarker}
 use Rattle.batches.specs.declared.RecordBatch.{RecordBatch}
 use Rattle.batches.specs.declared.ControlBatchOrRecords.{ControlBatchOrRecords}
 use Rattle.batches.specs.declared.BatchRead.{BatchRead}
-use Rattle.batches.specs.Answers.{Answer, viewFields, viewMarker, viewKind, viewCount, viewRead, kindOf, recordsIn, roomsOf, hasRoom, stored, accepts, acceptedAs}
+use Rattle.batches.specs.Answers.{Answer, viewFields, viewKind, viewCount, viewRead, kindOf, recordsIn, roomsOf, hasRoom, stored, accepts, acceptedAs}
 use Rattle.batches.specs.Promises.{ReadOutcome, ReadPromise}
 use Rattle.batches.specs.Writer.{marker, rows, viewWanted, wantedOf, batchGiven}
 use Rattle.batches.specs.Rewriting.{Rewritable}

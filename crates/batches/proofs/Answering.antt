@@ -26,15 +26,16 @@ use Rattle.opening.specs.Judgement.{Judgement, contentAt, bareMarkerAt, judgeAt
 use Rattle.opening.specs.Answers.{batchNumberOf, viewOpened}
 use Rattle.opening.specs.Opened.{KnownAt, openAt, judgedAs, judgedFrom}
 use Rattle.opening.proofs.Judging.{judged-by-opening, opened-inside}
+use Rattle.markers.specs.declared.ControlBatchRecord.{ControlBatchRecord}
+use Rattle.markers.specs.declared.ControlBatchRecordRead.{ControlBatchRecordRead}
+use Rattle.markers.specs.Markers.{viewMarker, viewMarkerRead}
 use Rattle.batches.specs.declared.RecordBatch.{RecordBatch}
-use Rattle.batches.specs.declared.ControlBatchRecord.{ControlBatchRecord}
 use Rattle.batches.specs.declared.BatchRead.{BatchRead}
-use Rattle.batches.specs.declared.ControlBatchRecordRead.{ControlBatchRecordRead}
 use Rattle.batches.specs.declared.BatchCheck.{BatchCheck}
-use Rattle.batches.specs.Answers.{ofRecords, ofMarker, accepts, wants, refuses, viewFields, viewMarker, answerWithRoom}
+use Rattle.batches.specs.Answers.{ofRecords, ofMarker, accepts, wants, refuses, viewFields, answerWithRoom}
 use Rattle.batches.specs.Answers as Answers
 use Rattle.batches.specs.Promises.{ReadOutcome, ReadBy}
-use Rattle.batches.specs.Reading.{viewMarkerRead, ofRecordsRead}
+use Rattle.batches.specs.Reading.{ofRecordsRead}
 use Rattle.batches.proofs.Storing.{reads}
 
 -- ---- a marker needs no room

@@ -21,9 +21,10 @@ use Rattle.records.specs.Statements.{Each, Writable}
 use Rattle.records.specs.Written.{writtenFields, writtenRecord, writtenRecords}
 use Rattle.records.proofs.Encodes.{written-length, run-encodes}
 use Rattle.layout.specs.Table.{FixedFields, unchecked, fixedChecked, uncheckedFields, checkedFields}
-use Rattle.layout.specs.Batch.{Fields, Marker, abort, commit, Content, control, records, Batch}
-use Rattle.layout.specs.Format.{concat, attributesOf, howMany, Counts, markerType, ContentBytes, BatchBytes}
+use Rattle.layout.specs.Batch.{Fields, Content, control, records, Batch}
+use Rattle.layout.specs.Format.{concat, attributesOf, howMany, Counts, ContentBytes, BatchBytes}
 use Rattle.layout.proofs.Flags.{timestamp-small, bit-small, control-small}
+use Rattle.markers.proofs.Encodes.{marker-encodes}
 use Rattle.batches.specs.Placed.{shownContent}
 use Rattle.batches.specs.Writer.{writtenContent, writtenFixed, checkedBytes, batchLengthOf, writtenBatch, mostLength}
 use Rattle.batches.specs.Rewriting.{InWidth}
@@ -36,20 +37,9 @@ abbrev pub WritableContent : Content Record → Type 0
 WritableContent (control m) = Unit {0}
 WritableContent (records rs) = Each Writable rs
 
-type-fits : (m : Marker) → markerType m < 2 ^ 15
-type-fits abort = omega arith
-type-fits commit = omega arith
-
 content-encodes : (c : Content Record) → WritableContent c → ContentBytes true (writtenContent c) c
 unfolding writtenContent
-content-encodes (control m) w =
-    record {
-      version = bigEndian 2 0;
-      kind = bigEndian 2 (markerType m);
-      is = refl;
-      versioned = record { is = refl; fits = omega arith };
-      typed = record { is = refl; fits = type-fits m };
-    }
+content-encodes (control m) w = marker-encodes m
 content-encodes (records rs) w = run-encodes true rs w
 
 -- each record has a byte at least

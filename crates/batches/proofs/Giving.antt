@@ -15,10 +15,10 @@ use mir.Syntax.{w32}
 use mir.Val.{toZ}
 use mir.ValLaws.{toZ-pos}
 use Rattle.primitives.specs.Pick.{pick}
-use Rattle.primitives.specs.Pen.{pen, emit}
+use Rattle.primitives.specs.Promises.{PutPromise}
 use Rattle.primitives.specs.Step.{Step, ok, no, mapStep}
 use Rattle.primitives.proofs.Integers.{big-endian-length}
-use Rattle.primitives.proofs.Pens.{emit-inside}
+use Rattle.primitives.proofs.Pens.{put-emits, emit-inside}
 use Rattle.primitives.proofs.Refusing.{RefusedBy}
 use Rattle.crc32c.specs.Crc.{crc32c}
 use Rattle.records.specs.Format.{Record}
@@ -40,10 +40,10 @@ use Rattle.layout.specs.Batch.{Fields, Marker, Content, control, records, Batch
 use Rattle.layout.specs.Format.{concat, bit, controlBit, attributesOf, howMany}
 use Rattle.layout.specs.Fixed.{attributesFor, frameBytes, timesBytes, producerBytes, checkedPart, fixedBefore}
 use Rattle.layout.proofs.Putting.{fixed-length}
-use Rattle.batches.specs.declared.ControlBatchRecord.{ControlBatchRecord}
+use Rattle.markers.specs.declared.ControlBatchRecord.{ControlBatchRecord}
+use Rattle.markers.specs.Markers.{writtenMarker, viewMarker}
 use Rattle.batches.specs.declared.ControlBatchOrRecords.{ControlBatchOrRecords}
 use Rattle.batches.specs.Writer.{writtenContent, checkedBytes, batchLengthOf, writtenBatch, mostLength, viewWanted, contentAsked, batchGivenBy, batchGiven}
-use Rattle.batches.specs.Answers.{viewMarker}
 use Rattle.batches.proofs.Apart.{controls}
 use Rattle.batches.proofs.Encodes.{many-within, content-length, shows}
 
@@ -131,7 +131,7 @@ abbrev pub marks : Fields → Marker → Batch Record
 marks x m = record { fields = x; content = control m }
 
 marker-length : (m : Marker) → length (writtenContent (control m)) ≡ 4
-unfolding writtenContent
+unfolding writtenContent writtenMarker
 marker-length m = simp (length-append, big-endian-length)
 
 module _ (x : Fields) where
@@ -148,12 +148,13 @@ module _ (x : Fields) (m : Marker) (out : List ℕ) where
   marker-short h = unfinished (marks x m) out (omega (arith, marker-length m))
 
   pub marker-written : (out′ : List ℕ) (next : ℕ) (output : List ℕ) → 65 ≤ length out
-      → pen next out′ ≡ emit (writtenContent (control m)) (pen fixedPart out)
+      → PutPromise (writtenMarker m) out fixedPart (record { next = next; output = out′ })
       → output ≡ fixedBefore x (pos (65 - uncounted)) (pos (attributesFor x true)) (pos 1) (take (65 - fixedPart) (drop fixedPart out′)) ++ drop fixedPart out′
       → WriteBy (given (writtenBatch (marks x m))) 0 out (record { result = Written.Bytes 65; output = output })
+  unfolding writtenContent
   marker-written out′ next output room put e =
       let four = marker-length m in
-      let is = emit-inside fixedPart out (writtenContent (control m)) next out′ put (omega arith) in
+      let is = emit-inside fixedPart out (writtenMarker m) next out′ (put-emits fixedPart out (writtenMarker m) next out′ put) (omega arith) in
       finished (marks x m) out out′ 65 (pos 1) output (omega arith) room is refl e
 
 -- ---- what is given of records, and what of their batch

@@ -8,7 +8,7 @@ pub mod Complete
 pub mod Encodes
 pub mod Given
 mod Giving
-mod Markers
+mod Handed
 pub mod Numbers
 pub mod Only
 mod Own
@@ -28,6 +28,5 @@ pub mod Sound
 pub mod Stands
 mod Storing
 mod Strictly
-mod Sums
 pub mod Unambiguous
 pub mod Written

@@ -8,7 +8,7 @@ use native.Mathlib.Omega.{arith}
 use lib.IntN.{ℤ, pos}
 use lib.ListN.{length, length-append}
 use Rattle.primitives.specs.Format.{bigEndian, complement}
-use Rattle.primitives.proofs.Integers.{big-endian-length, unsigned-length, integer-length}
+use Rattle.primitives.proofs.Integers.{unsigned-length, integer-length}
 use Rattle.primitives.proofs.Places.{whole}
 use Rattle.crc32c.specs.Crc.{crc32c}
 use Rattle.records.specs.Format.{Record}
@@ -16,6 +16,7 @@ use Rattle.records.proofs.Written.{run-written}
 use Rattle.records.proofs.Shortest.{run-shortest}
 use Rattle.layout.specs.Batch.{Content, control, records, Batch}
 use Rattle.layout.specs.Format.{concat, Counts, exactly, ContentBytes, BatchBytes}
+use Rattle.markers.proofs.Encodes.{marker-written}
 use Rattle.batches.specs.Writer.{writtenContent, checkedBytes, batchLengthOf, writtenBatch, mostLength}
 use Rattle.batches.specs.Rewriting.{WrittenShortest, WrittenOnly}
 use Rattle.batches.proofs.Encodes.{content-length}
@@ -26,7 +27,7 @@ use Rattle.batches.proofs.Sizes.{body-rest}
 
 content-written : (bs : List ℕ) (c : Content Record) → ContentBytes true bs c → bs ≡ writtenContent c
 unfolding writtenContent
-content-written bs (control m) g = g .is ∙ (λ i. g .versioned .is i ++ g .typed .is i)
+content-written bs (control m) g = marker-written bs m g
 content-written bs (records rs) g = run-written bs rs g
 
 pub exact-count : {z : ℤ} {n : ℕ} → Counts true z n → z ≡ pos n
@@ -73,8 +74,7 @@ written-only bs bs′ b g h = batch-written g ∙ sym (batch-written h)
 
 content-shortest : (strict : Bool) (bs : List ℕ) (c : Content Record) → ContentBytes strict bs c → length (writtenContent c) ≤ length bs
 unfolding writtenContent
-content-shortest strict bs (control m) g =
-    rw (g .is) (simp (length-append, big-endian-length, integer-length (g .versioned), integer-length (g .typed)) (omega arith))
+content-shortest strict bs (control m) g = let same = ap length (marker-written bs m g) in omega arith
 content-shortest strict bs (records rs) g = run-shortest strict bs rs g
 
 -- so a batch that has an encoding is not too long to be written

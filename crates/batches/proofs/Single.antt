@@ -10,17 +10,17 @@ use Rattle.primitives.proofs.Single.{single-value, single-view, single-exactly}
 use Rattle.records.specs.Rows.{Tables}
 use Rattle.writing.proofs.Single.{single-written, single-write-by}
 use Rattle.layout.specs.declared.RecordBatchTimestampType.{RecordBatchTimestampType}
-use Rattle.layout.specs.Batch.{Fields, Marker, abort, commit}
-use Rattle.layout.proofs.Single.{timestampType, type-again}
+use Rattle.layout.specs.Batch.{Fields}
+use Rattle.layout.specs.Time.{viewTime}
+use Rattle.layout.proofs.Single.{timestampType, type-again, time, time-again}
 use Rattle.opening.specs.Judgement.{Judgement, judge}
 use Rattle.opening.proofs.Single.{refusal, refusal-again}
+use Rattle.markers.proofs.Single.{marker, marker-again}
 use Rattle.batches.specs.declared.RecordBatch.{RecordBatch}
-use Rattle.batches.specs.declared.ControlBatchRecord.{ControlBatchRecord}
 use Rattle.batches.specs.declared.ControlBatchOrRecords.{ControlBatchOrRecords}
 use Rattle.batches.specs.declared.BatchCheck.{BatchCheck}
 use Rattle.batches.specs.declared.BatchRead.{BatchRead}
-use Rattle.batches.specs.declared.RecordTime.{RecordTime}
-use Rattle.batches.specs.Answers.{Kind, ofRecords, ofMarker, Answer, viewFields, viewKind, viewCount, viewCheck, viewRead, viewTime}
+use Rattle.batches.specs.Answers.{Kind, ofRecords, ofMarker, Answer, viewFields, viewKind, viewCount, viewCheck, viewRead}
 use Rattle.batches.specs.Promises.{TotalSizePromise, CheckPromise, ReadBy, ReadPromise, RecordTimePromise, MeasurePromise, WritePromise, Canonical, CanonicalPromise}
 
 pub single-total-size : (n : ℤ) → Single (TotalSizePromise n)
@@ -49,17 +49,12 @@ batch x = batchOf x (timestampType (x .timestampType))
 batch-again : (b : RecordBatch) → batch (viewFields b) ≡ b
 batch-again b = ap (batchOf (viewFields b)) (type-again (b .«timestamp_type»))
 
-abbrev marker : Marker → ControlBatchRecord
-marker abort = ControlBatchRecord.Abort
-marker commit = ControlBatchRecord.Commit
-
 abbrev kind : Kind → ℕ → ControlBatchOrRecords
 kind ofRecords n = ControlBatchOrRecords.Records n
 kind (ofMarker m) n = ControlBatchOrRecords.ControlBatch (marker m)
 
 kind-again : (k : ControlBatchOrRecords) → kind (viewKind k) (viewCount k) ≡ k
-kind-again (ControlBatchOrRecords.ControlBatch ControlBatchRecord.Abort) = refl
-kind-again (ControlBatchOrRecords.ControlBatch ControlBatchRecord.Commit) = refl
+kind-again (ControlBatchOrRecords.ControlBatch m) = ap ControlBatchOrRecords.ControlBatch (marker-again m)
 kind-again (ControlBatchOrRecords.Records n) = refl
 
 -- an acceptance where fields and kind are named, or another answer
@@ -114,13 +109,8 @@ single-read-by j t o o′ e e′ =
 pub single-read : (s : List ℕ) (t : Tables) → Single (ReadPromise s t)
 single-read s t = single-read-by (judge s) t
 
-abbrev time : Option ℤ → RecordTime
-time (some t) = RecordTime.Time t
-time none = RecordTime.NoTime
-
 pub single-record-time : (b : RecordBatch) (delta : ℤ) → Single (RecordTimePromise b delta)
-single-record-time b delta =
-    single-view viewTime time (λ r. elim r [ RecordTime.Time t ↦ refl | RecordTime.NoTime ↦ refl ]) _
+single-record-time b delta = single-view viewTime time time-again _
 
 -- ---- the writer's promises, and the canonical check's
 

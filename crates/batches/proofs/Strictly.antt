@@ -30,7 +30,6 @@ use Rattle.records.specs.Placed.{placedRecords, shownRecord}
 use Rattle.records.proofs.Complete.{records-complete}
 use Rattle.records.proofs.Shows.{records-shows}
 use Rattle.records.proofs.Sound.{records-sound}
-use Rattle.canonical.specs.Promises.{StandStrictly, CanonicalRecordsPromise}
 use Rattle.layout.specs.declared.BatchFields.{BatchFields}
 use Rattle.layout.specs.Fixed.{viewBatchFields}
 use Rattle.layout.specs.Batch.{Fields, Marker, Content, control, records, Batch}
@@ -45,8 +44,10 @@ use Rattle.opening.specs.Answers.{viewOpened}
 use Rattle.opening.proofs.Judging.{judged-by-opening, opened-inside}
 use Rattle.opening.proofs.Tests.{opened}
 use Rattle.opening.proofs.Verdicts.{more-not-accepted, refused-not-accepted, same-accepted}
+use Rattle.canonical.specs.Promises.{StandStrictly, CanonicalRecordsPromise}
+use Rattle.markers.specs.Markers.{isOk}
 use Rattle.batches.specs.Placed.{placedContent, placedBatch, shownBatch}
-use Rattle.batches.specs.Reading.{isOk, tight}
+use Rattle.batches.specs.Reading.{tight}
 use Rattle.batches.specs.Promises.{Canonical, CanonicalPromise}
 use Rattle.batches.proofs.Canonical.{canonical-strict}
 use Rattle.batches.proofs.Complete.{complete}

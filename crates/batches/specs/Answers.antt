@@ -3,21 +3,19 @@ use Prim.Native.Nat.{ℕ, _+_, _/_, _≤_}
 use mathlib.Core.Bool.{Bool, true, false}
 use mathlib.Core.Option.{Option, none, some}
 use lib.Dec.{leb}
-use lib.IntN.{ℤ}
 use lib.ListN.{length}
 use Rattle.primitives.specs.Pick.{pick}
 use Rattle.records.specs.Judgement.{RecordSpans}
 use Rattle.records.specs.Rows.{headersIn, Tables, withRows}
-use Rattle.layout.specs.Batch.{Fields, Marker, abort, commit, Content, control, records}
+use Rattle.layout.specs.Batch.{Fields, Marker, Content, control, records}
 use Rattle.layout.specs.Fixed.{viewType}
 use Rattle.opening.specs.Answers.{batchNumberOf}
 use Rattle.opening.specs.Judgement.{Judgement, more, refused, accepted, Accepted}
+use Rattle.markers.specs.Markers.{viewMarker}
 use Rattle.batches.specs.declared.RecordBatch.{RecordBatch}
-use Rattle.batches.specs.declared.ControlBatchRecord.{ControlBatchRecord}
 use Rattle.batches.specs.declared.ControlBatchOrRecords.{ControlBatchOrRecords}
 use Rattle.batches.specs.declared.BatchCheck.{BatchCheck}
 use Rattle.batches.specs.declared.BatchRead.{BatchRead}
-use Rattle.batches.specs.declared.RecordTime.{RecordTime}
 
 -- ---- the reader's numbers
 
@@ -70,10 +68,6 @@ viewFields b =
       transactional = b .«is_transactional»;
     }
 
-abbrev pub viewMarker : ControlBatchRecord → Marker
-viewMarker ControlBatchRecord.Abort = abort
-viewMarker ControlBatchRecord.Commit = commit
-
 abbrev pub viewKind : ControlBatchOrRecords → Kind
 viewKind (ControlBatchOrRecords.ControlBatch m) = ofMarker (viewMarker m)
 viewKind (ControlBatchOrRecords.Records n) = ofRecords
@@ -93,10 +87,6 @@ viewRead (BatchRead.Accepted b k m bytes) = accepts (viewFields b) (viewKind k) 
 viewRead (BatchRead.MoreBytes bytes) = wants bytes
 viewRead (BatchRead.Refused f) = refuses (batchNumberOf f)
 viewRead (BatchRead.NoRoom n m) = lacksRoom n m
-
-abbrev pub viewTime : RecordTime → Option ℤ
-viewTime (RecordTime.Time t) = some t
-viewTime RecordTime.NoTime = none
 
 -- ---- what a judgement has answered
 

@@ -1,5 +1,4 @@
 pub mod Placed
-pub mod Time
 pub mod Answers
 pub mod Writer
 pub mod Promises

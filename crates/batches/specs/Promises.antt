@@ -11,16 +11,16 @@ use Rattle.records.specs.Rows.{Tables}
 use Rattle.writing.specs.declared.Written.{Written}
 use Rattle.writing.specs.Answers.{given, viewWritten, measured}
 use Rattle.writing.specs.Promises.{WriteOutcome, WriteBy}
+use Rattle.layout.specs.declared.RecordTime.{RecordTime}
 use Rattle.layout.specs.Table.{uncounted}
+use Rattle.layout.specs.Time.{recordTime, viewTime}
 use Rattle.opening.specs.Judgement.{accepted, Accepted, Judgement, judge}
 use Rattle.batches.specs.declared.RecordBatch.{RecordBatch}
 use Rattle.batches.specs.declared.ControlBatchOrRecords.{ControlBatchOrRecords}
 use Rattle.batches.specs.declared.BatchCheck.{BatchCheck}
 use Rattle.batches.specs.declared.BatchRead.{BatchRead}
-use Rattle.batches.specs.declared.RecordTime.{RecordTime}
-use Rattle.batches.specs.Time.{recordTime}
 use Rattle.batches.specs.Writer.{viewWanted, batchGiven, ownTables, wantedOf}
-use Rattle.batches.specs.Answers.{viewFields, viewCheck, viewRead, viewTime, answerWithRoom, roomsOf, answerOf, tablesOf}
+use Rattle.batches.specs.Answers.{viewFields, viewCheck, viewRead, answerWithRoom, roomsOf, answerOf, tablesOf}
 
 -- RecordBatch::total_size, of any batchLength
 abbrev pub TotalSizePromise : ℤ → ℤ → Type 0

@@ -1,26 +1,15 @@
 -- Words of private contracts: none of them stands in a promise. What the steps of reading and of the canonical check give.
 use Prim.Native.Nat.{ℕ}
-use mathlib.Core.Bool.{Bool, true, false}
+use mathlib.Core.Bool.{Bool, false}
 use mathlib.Core.List.{List}
 use lib.Dec.{eqb, ltb}
 use lib.ListN.{getD}
 use Rattle.primitives.specs.Pick.{pick}
-use Rattle.primitives.specs.Step.{Step, ok, no}
 use Rattle.reading.specs.declared.RecordsRead.{RecordsRead}
-use Rattle.layout.specs.Batch.{Marker}
 use Rattle.opening.specs.declared.BatchFault.{BatchFault}
-use Rattle.opening.specs.Answers.{batchNumberOf}
 use Rattle.batches.specs.declared.RecordBatch.{RecordBatch}
 use Rattle.batches.specs.declared.ControlBatchOrRecords.{ControlBatchOrRecords}
 use Rattle.batches.specs.declared.BatchRead.{BatchRead}
-use Rattle.batches.specs.declared.ControlBatchRecordRead.{ControlBatchRecordRead}
-use Rattle.batches.specs.Answers.{viewMarker}
-
--- ---- the marker
-
-abbrev pub viewMarkerRead : ControlBatchRecordRead → Step ℕ Marker
-viewMarkerRead (ControlBatchRecordRead.Got m c) = ok (viewMarker m) (c .at)
-viewMarkerRead (ControlBatchRecordRead.Refused f) = no (batchNumberOf f)
 
 -- ---- the records
 
@@ -30,10 +19,6 @@ ofRecordsRead b total (RecordsRead.Refused f) = BatchRead.Refused (BatchFault.Bo
 ofRecordsRead b total (RecordsRead.NoRoom n m) = BatchRead.NoRoom n m
 
 -- ---- the canonical check
-
-abbrev pub isOk : {A : Type 0} → Step ℕ A → Bool
-isOk (ok a p) = true
-isOk (no n) = false
 
 -- the bytes of the attributes, and the highest of the count
 abbrev pub tight : List ℕ → Bool

@@ -19,16 +19,15 @@ use Rattle.writing.specs.Answers.{Given, given, refused}
 use Rattle.layout.specs.Fixed.{signed}
 use Rattle.layout.specs.Table.{FixedFields, table, unchecked, uncountedFields, uncheckedFields, checkedFields}
 use Rattle.layout.specs.Batch.{Fields, Marker, Content, control, records, Batch}
-use Rattle.layout.specs.Format.{concat, attributesOf, howMany, markerType}
+use Rattle.layout.specs.Format.{concat, attributesOf, howMany}
+use Rattle.markers.specs.Markers.{writtenMarker, viewMarker}
 use Rattle.batches.specs.declared.ControlBatchOrRecords.{ControlBatchOrRecords}
 use Rattle.batches.specs.Placed.{shownContent}
-use Rattle.batches.specs.Answers.{viewMarker}
 
 -- ---- the bytes of a batch
 
--- Exception, as in the Rust: a marker's version and type stand alone.
 unfoldable pub writtenContent : Content Record → List ℕ
-writtenContent (control m) = bigEndian 2 0 ++ bigEndian 2 (markerType m)
+writtenContent (control m) = writtenMarker m
 writtenContent (records rs) = writtenRecords rs
 
 -- the fixed fields, around a batchLength and a checksum

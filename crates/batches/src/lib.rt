@@ -5,7 +5,10 @@ use canonical::canonical_records;
 use layout::BatchFields;
 use layout::Producer;
 use layout::RecordBatchTimestampType;
+use layout::RecordTime;
 use layout::Times;
+use markers::ControlBatchRecord;
+use markers::ControlBatchRecordRead;
 use opening::BatchFault;
 use opening::Opened;
 use opening::open_at;
@@ -25,23 +28,22 @@ use writing::write_records;
 ghost use Prim.Native.Nat.{_+_, _-_, _≤_};
 ghost use mathlib.Core.Path.{_≡_};
 ghost use mathlib.Core.List.{_++_};
-ghost use lib.IntN.{pos, _+ℤ_};
+ghost use lib.IntN.{pos};
 ghost use lib.ListN.{length, take, drop};
 ghost use Rattle.primitives.specs.Step.{mapStep};
-ghost use Rattle.primitives.specs.Pen.{pen, emit};
 ghost use Rattle.records.specs.Rows.{tables};
 ghost use Rattle.writing.specs.Answers.{given};
 ghost use Rattle.writing.specs.Promises.{WriteBy};
 ghost use Rattle.layout.specs.Table.{table, uncounted, fixedPart};
 ghost use Rattle.layout.specs.Batch.{control};
 ghost use Rattle.layout.specs.Format.{bit};
-ghost use Rattle.layout.specs.Fixed.{viewBatchFields, signed, attributesFor, fixedBefore};
-ghost use Rattle.opening.specs.Judgement.{bareMarkerAt, endedAt, judgeAt};
+ghost use Rattle.layout.specs.Fixed.{viewBatchFields, attributesFor, fixedBefore};
+ghost use Rattle.opening.specs.Judgement.{bareMarkerAt, judgeAt};
 ghost use Rattle.opening.specs.Opened.{judgedAs};
-ghost use Rattle.batches.specs.Time.{in64};
-ghost use Rattle.batches.specs.Answers.{viewFields, viewMarker, viewCheck, viewRead, answerWithRoom};
-ghost use Rattle.batches.specs.Reading.{isOk, tight, viewMarkerRead, ofRecordsRead};
-ghost use Rattle.batches.specs.Writer.{writtenContent, writtenBatch, mostLength, rows, contentAsked, batchGivenBy};
+ghost use Rattle.markers.specs.Markers.{viewMarker};
+ghost use Rattle.batches.specs.Answers.{viewFields, viewCheck, viewRead, answerWithRoom};
+ghost use Rattle.batches.specs.Reading.{tight, ofRecordsRead};
+ghost use Rattle.batches.specs.Writer.{writtenBatch, mostLength, rows, contentAsked, batchGivenBy};
 ghost use Rattle.batches.specs.Promises.{TotalSizePromise, CheckPromise, ReadBy, ReadPromise, RecordTimePromise, MeasurePromise, WritePromise, CanonicalPromise};
 
 // The fields of a batch that are handed out and in; all else is worked out.
@@ -56,12 +58,6 @@ pub struct RecordBatch {
     pub base_sequence: i32,
     pub is_transactional: bool,
     pub timestamp_type: RecordBatchTimestampType,
-}
-
-// The marker that ends a transaction.
-pub enum ControlBatchRecord {
-    Abort,
-    Commit,
 }
 
 // The kind of a batch: a marker, or as many records as rows of the record table hold.
@@ -99,17 +95,6 @@ pub enum BatchRead {
     },
 }
 
-// The time of a record, or that there is none.
-pub enum RecordTime {
-    Time(i64),
-    NoTime,
-}
-
-enum ControlBatchRecordRead {
-    Got(ControlBatchRecord, Cursor),
-    Refused(BatchFault),
-}
-
 impl RecordBatch {
     // A whole control batch.
     const MARKED: usize = 65;
@@ -118,7 +103,7 @@ impl RecordBatch {
     pub fn total_size(batch_length: i32) -> i64
         ensures { λ r. ⌜ TotalSizePromise «batch_length» r ⌝ }
     {
-        BatchFields::UNCOUNTED as i64 + batch_length as i64
+        BatchFields::total_size(batch_length)
     }
 
     // What the bytes begin with, by themselves: no table is needed to judge them.
@@ -140,11 +125,7 @@ impl RecordBatch {
     pub fn record_time(self, delta: i64) -> RecordTime
         ensures { λ r. ⌜ RecordTimePromise self delta r ⌝ }
     {
-        let first = self.first_timestamp;
-        if !sum_fits(first, delta) {
-            return RecordTime::NoTime;
-        }
-        RecordTime::Time(first + delta)
+        self.fields().record_time(delta)
     }
 
     // How many bytes the batch has when it is written: its marker, or records from the first rows of both tables, whose
@@ -231,21 +212,6 @@ impl RecordBatch {
             Opened::Refused(_) => false,
         }
     }
-}
-
-// The largest and the smallest signed number of 64 bits.
-const LARGEST: i64 = 0x7FFF_FFFF_FFFF_FFFF;
-
-const SMALLEST: i64 = -0x8000_0000_0000_0000;
-
-// Whether the sum is a signed number of 64 bits.
-fn sum_fits(a: i64, b: i64) -> bool
-    ensures { λ r. ⌜ r ≡ in64 (a +ℤ b) ⌝ }
-{
-    if 0 <= b {
-        return a <= LARGEST - b;
-    }
-    SMALLEST - b <= a
 }
 
 // The batch that starts at `at`.
@@ -372,54 +338,6 @@ fn of_records(read: RecordsRead, batch: RecordBatch, total: usize) -> BatchRead
     }
 }
 
-impl ControlBatchRecord {
-    const VERSION: i16 = 0;
-    // The types.
-    const ABORT: i16 = 0;
-
-    const COMMIT: i16 = 1;
-
-    // The version is judged before the type is looked at.
-    fn read(s: &[u8], c: Cursor) -> ControlBatchRecordRead
-        ensures { λ r. ⌜ viewMarkerRead r ≡ bareMarkerAt (now (s .entry)) (c .at) ⌝ }
-    {
-        match c.read_int16(s) {
-            Int16Read::Got(version, at_type) => {
-                let version = version.0;
-                if version != ControlBatchRecord::VERSION {
-                    return ControlBatchRecordRead::Refused(BatchFault::UnknownControl);
-                }
-                match at_type.read_int16(s) {
-                    Int16Read::Got(t, next) => {
-                        let t = t.0;
-                        if t == ControlBatchRecord::ABORT {
-                            return ended(s, ControlBatchRecord::Abort, next);
-                        }
-                        if t == ControlBatchRecord::COMMIT {
-                            return ended(s, ControlBatchRecord::Commit, next);
-                        }
-                        ControlBatchRecordRead::Refused(BatchFault::UnknownControl)
-                    }
-                    Int16Read::Refused(f) =>
-                        ControlBatchRecordRead::Refused(BatchFault::Body(RecordFault::Field(f))),
-                }
-            }
-            Int16Read::Refused(f) =>
-                ControlBatchRecordRead::Refused(BatchFault::Body(RecordFault::Field(f))),
-        }
-    }
-}
-
-// Nothing follows a marker.
-fn ended(s: &[u8], marker: ControlBatchRecord, c: Cursor) -> ControlBatchRecordRead
-    ensures { λ r. ⌜ viewMarkerRead r ≡ endedAt (now (s .entry)) (viewMarker marker) (c .at) ⌝ }
-{
-    if c.at < s.len() {
-        return ControlBatchRecordRead::Refused(BatchFault::Body(RecordFault::BytesLeft));
-    }
-    ControlBatchRecordRead::Got(marker, c)
-}
-
 impl RecordBatch {
     fn write_marker(self, marker: ControlBatchRecord, output: &mut [u8]) -> Written
         ensures { λ r. ⌜ WriteBy (given (writtenBatch (record { fields = viewFields self; content = control (viewMarker marker) }))) 0 (now (output .entry)) (record { result = r; output = now (output .exit) }) ⌝ }
@@ -537,25 +455,6 @@ impl RecordBatch {
     }
 }
 
-impl ControlBatchRecord {
-    fn put(self, output: &mut [u8], at: usize) -> usize
-        ensures { λ r. ⌜ pen r (now (output .exit)) ≡ emit (writtenContent (control (viewMarker self))) (pen at (now (output .entry))) ⌝ }
-    {
-        let version = Int16(ControlBatchRecord::VERSION).to_be_bytes();
-        let at_type = put(&version, output, at);
-        match self {
-            ControlBatchRecord::Abort => {
-                let t = Int16(ControlBatchRecord::ABORT).to_be_bytes();
-                put(&t, output, at_type)
-            }
-            ControlBatchRecord::Commit => {
-                let t = Int16(ControlBatchRecord::COMMIT).to_be_bytes();
-                put(&t, output, at_type)
-            }
-        }
-    }
-}
-
 // What is read and never written shows in three bytes of the fixed fields: attribute bits above bit 5, and a count of -1.
 fn is_tight(bytes: &[u8]) -> bool
     requires { ⌜ fixedPart ≤ length (now bytes) ⌝ }
@@ -568,16 +467,4 @@ fn is_tight(bytes: &[u8]) -> bool
         return false;
     }
     bytes[BatchFields::COUNT] < 128
-}
-
-impl ControlBatchRecord {
-    // Whether a marker stands at the cursor and ends where `s` ends.
-    fn stands(s: &[u8], c: Cursor) -> bool
-        ensures { λ r. ⌜ r ≡ isOk (bareMarkerAt (now (s .entry)) (c .at)) ⌝ }
-    {
-        match ControlBatchRecord::read(s, c) {
-            ControlBatchRecordRead::Got(_, _) => true,
-            ControlBatchRecordRead::Refused(_) => false,
-        }
-    }
 }

@@ -1,4 +1,5 @@
 pub mod Flags
 pub mod Putting
 pub mod Single
+mod Sums
 pub mod Table

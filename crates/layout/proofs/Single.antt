@@ -3,15 +3,32 @@ use Prim.Native.Nat.{ℕ}
 use mathlib.Core.Path.{_≡_, refl, ap}
 use mathlib.Core.Bool.{Bool}
 use mathlib.Core.List.{List}
+use mathlib.Core.Option.{Option, none, some}
 use lib.IntN.{ℤ}
 use Rattle.primitives.specs.declared.Int16.{Int16}
 use Rattle.primitives.specs.Single.{Single}
 use Rattle.primitives.proofs.Single.{single-value, single-view}
 use Rattle.layout.specs.declared.RecordBatchTimestampType.{RecordBatchTimestampType}
 use Rattle.layout.specs.declared.BatchFields.{BatchFields}
+use Rattle.layout.specs.declared.RecordTime.{RecordTime}
 use Rattle.layout.specs.Batch.{TimestampType, createTime, logAppendTime, Fields}
 use Rattle.layout.specs.Fixed.{viewType, viewBatchFields}
-use Rattle.layout.specs.Promises.{AttributesPromise, FixedBeforePromise}
+use Rattle.layout.specs.Time.{viewTime}
+use Rattle.layout.specs.Promises.{TotalSizePromise, RecordTimePromise, AttributesPromise, FixedBeforePromise}
+
+pub single-total-size : (n : ℤ) → Single (TotalSizePromise n)
+single-total-size n = single-value _
+
+abbrev pub time : Option ℤ → RecordTime
+time (some t) = RecordTime.Time t
+time none = RecordTime.NoTime
+
+pub time-again : (r : RecordTime) → time (viewTime r) ≡ r
+time-again (RecordTime.Time t) = refl
+time-again RecordTime.NoTime = refl
+
+pub single-record-time : (x : BatchFields) (delta : ℤ) → Single (RecordTimePromise x delta)
+single-record-time x delta = single-view viewTime time time-again _
 
 pub single-attributes : (x : BatchFields) (control : Bool) → Single (AttributesPromise x control)
 single-attributes x control = single-view (λ (r : Int16). r .0) (λ (z : ℤ). record { 0 = z }) (λ r. refl) _

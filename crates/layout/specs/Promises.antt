@@ -4,10 +4,21 @@ use Prim.Native.Nat.{ℕ}
 use mathlib.Core.Path.{_≡_}
 use mathlib.Core.Bool.{Bool}
 use mathlib.Core.List.{List}
-use lib.IntN.{ℤ, pos}
+use lib.IntN.{ℤ, pos, _+ℤ_}
 use Rattle.primitives.specs.declared.Int16.{Int16}
 use Rattle.layout.specs.declared.BatchFields.{BatchFields}
+use Rattle.layout.specs.declared.RecordTime.{RecordTime}
+use Rattle.layout.specs.Table.{uncounted}
+use Rattle.layout.specs.Time.{recordTime, viewTime}
 use Rattle.layout.specs.Fixed.{viewBatchFields, attributesFor, fixedBefore}
+
+-- BatchFields::total_size, of any batchLength
+abbrev pub TotalSizePromise : ℤ → ℤ → Type 0
+TotalSizePromise batchLength r = r ≡ pos uncounted +ℤ batchLength
+
+-- BatchFields::record_time
+abbrev pub RecordTimePromise : BatchFields → ℤ → RecordTime → Type 0
+RecordTimePromise x delta r = viewTime r ≡ recordTime (viewBatchFields x) delta
 
 -- BatchFields::attributes, of a batch that is a control batch, or is not
 abbrev pub AttributesPromise : BatchFields → Bool → Int16 → Type 0

@@ -8,11 +8,13 @@ use primitives::Int64;
 use primitives::Uint32;
 use primitives::put;
 ghost use mathlib.Core.Path.{_≡_};
+ghost use lib.IntN.{_+ℤ_};
 ghost use Rattle.primitives.specs.Format.{bigEndian};
 ghost use Rattle.primitives.specs.Pen.{pen, emit};
 ghost use Rattle.layout.specs.Format.{timestampBit, bit};
+ghost use Rattle.layout.specs.Time.{in64};
 ghost use Rattle.layout.specs.Fixed.{viewType, viewBatchFields, signed, frameBytes, timesBytes, producerBytes, fixedBytes};
-ghost use Rattle.layout.specs.Promises.{AttributesPromise, FixedBeforePromise};
+ghost use Rattle.layout.specs.Promises.{TotalSizePromise, RecordTimePromise, AttributesPromise, FixedBeforePromise};
 
 // Whose time the records have.
 pub enum RecordBatchTimestampType {
@@ -43,6 +45,12 @@ pub struct BatchFields {
     pub producer: Producer,
 }
 
+// The time of a record, or that there is none.
+pub enum RecordTime {
+    Time(i64),
+    NoTime,
+}
+
 impl BatchFields {
     // What stands before batchLength begins to count.
     pub const UNCOUNTED: usize = 12;
@@ -60,6 +68,25 @@ impl BatchFields {
     pub const ATTRIBUTES: usize = 21;
 
     pub const COUNT: usize = 57;
+
+    // The bytes of a batch, from any batchLength.
+    pub fn total_size(batch_length: i32) -> i64
+        ensures { λ r. ⌜ TotalSizePromise «batch_length» r ⌝ }
+    {
+        BatchFields::UNCOUNTED as i64 + batch_length as i64
+    }
+
+    // The time of a record with this delta.
+    pub fn record_time(self, delta: i64) -> RecordTime
+        ensures { λ r. ⌜ RecordTimePromise self delta r ⌝ }
+    {
+        let times = self.times;
+        let first = times.first_timestamp;
+        if !sum_fits(first, delta) {
+            return RecordTime::NoTime;
+        }
+        RecordTime::Time(first + delta)
+    }
 
     // The attributes, in the one place where they are put together. The codec is 0, and so are the bits above bit 5.
     pub fn attributes(self, is_control: bool) -> Int16
@@ -130,6 +157,21 @@ impl BatchFields {
         let at_count = put_int32(Int32(producer.base_sequence), output, at_sequence);
         put_int32(count, output, at_count)
     }
+}
+
+// The largest and the smallest signed number of 64 bits.
+const LARGEST: i64 = 0x7FFF_FFFF_FFFF_FFFF;
+
+const SMALLEST: i64 = -0x8000_0000_0000_0000;
+
+// Whether the sum is a signed number of 64 bits.
+fn sum_fits(a: i64, b: i64) -> bool
+    ensures { λ r. ⌜ r ≡ in64 (a +ℤ b) ⌝ }
+{
+    if 0 <= b {
+        return a <= LARGEST - b;
+    }
+    SMALLEST - b <= a
 }
 
 fn timestamp_bit(t: RecordBatchTimestampType) -> u16

@@ -1,8 +1,8 @@
 // What the program `list` prints of a file: one line after the other, each handed out by value.
 use batches::BatchRead;
 use batches::ControlBatchOrRecords;
-use batches::ControlBatchRecord;
 use batches::RecordBatch;
+use markers::ControlBatchRecord;
 ghost use mathlib.Core.Path.{_≡_};
 ghost use mathlib.Core.List.{[], _∷_, _++_};
 ghost use Rattle.records.specs.Rows.{tables};

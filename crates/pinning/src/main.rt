@@ -1,10 +1,10 @@
 // Writes the pinning log of a railway's ticketing balancer to standard output. A record's key is a cookie and its value
 // the server that the cookie is pinned to; a null value withdraws the pinning.
 use batches::ControlBatchOrRecords;
-use batches::ControlBatchRecord;
 use batches::RecordBatch;
 use layout::RecordBatchTimestampType;
 use libc::STDOUT_FILENO;
+use markers::ControlBatchRecord;
 use writing::Written;
 ghost use Prim.Native.Nat.{_≤_, _<_};
 ghost use mathlib.Core.Path.{_≡_};

@@ -1,21 +1,14 @@
 -- `batches::RecordBatch::total_size` meets its contract. Assumes nothing.
+use Rattle.batches.proofs.Handed.{total-same}
 use borrow.Author.Needs.{needs}
-use lib.Dec.{lit≤}
-use Rattle.batches.proofs.Sums.{total-widens, total-fits, total-back}
 use Rattle.batches.proofs.RecordBatch.total_size.Statement.{statement}
 use Rattle.batches.proofs.RecordBatch.total_size.Tie as tie
 
-cast-result : tie.Need-cast-result
-cast-result c = search needs
-
-cast-result-2 : tie.Need-cast-result-2
-cast-result-2 c = total-widens (c .args .batch-length) (c .fits .batch-length)
-
-add-result : tie.Need-add-result
-add-result c = total-fits (c .args .batch-length) (c .fits .batch-length) _ (lit≤ tt)
+total-size-requires : tie.Need-total-size-requires
+total-size-requires c κs = search needs
 
 returns : tie.Need-returns
-returns c = total-back (c .args .batch-length) (c .fits .batch-length)
+returns c = search (total-same, needs)
 
 pub total-size-spec : {M : Type 1} → statement M
-total-size-spec = tie.close (tie.spec cast-result cast-result-2 add-result returns)
+total-size-spec = tie.close (tie.spec total-size-requires returns)

@@ -15,9 +15,9 @@ use mir.Val.{SFits, toZ, ofZ}
 use mir.ValLaws.{toZ-ofZ}
 use Rattle.primitives.specs.Pick.{pick}
 use Rattle.primitives.proofs.Signs.{widen-fits, widen-back}
 use Rattle.layout.specs.Table.{uncounted}
 use Rattle.layout.specs.Batch.{Fields}
-use Rattle.batches.specs.Time.{in64, recordTime}
+use Rattle.layout.specs.Time.{in64, recordTime}
 
 -- ---- 12 and batchLength
 

@@ -21,9 +21,9 @@ use Rattle.layout.specs.Batch.{Marker, abort, commit}
 use Rattle.opening.specs.declared.BatchFault.{BatchFault}
 use Rattle.opening.specs.Judgement.{markerOf, endedAt, bareMarkerAt}
 use Rattle.opening.proofs.SignedTests.{bits-number, bits-other}
-use Rattle.batches.specs.declared.ControlBatchRecord.{ControlBatchRecord}
-use Rattle.batches.specs.declared.ControlBatchRecordRead.{ControlBatchRecordRead}
-use Rattle.batches.specs.Reading.{viewMarkerRead, isOk}
+use Rattle.markers.specs.declared.ControlBatchRecord.{ControlBatchRecord}
+use Rattle.markers.specs.declared.ControlBatchRecordRead.{ControlBatchRecordRead}
+use Rattle.markers.specs.Markers.{viewMarkerRead, isOk}
 
 -- ---- what follows
 

@@ -1,8 +1,8 @@
--- `batches::ControlBatchRecord::stands` meets its contract. Assumes nothing.
+-- `markers::ControlBatchRecord::stands` meets its contract. Assumes nothing.
 use borrow.Author.Needs.{needs}
-use Rattle.batches.proofs.Markers.{marker-there, marker-missing}
-use Rattle.batches.proofs.ControlBatchRecord.stands.Statement.{statement}
-use Rattle.batches.proofs.ControlBatchRecord.stands.Tie as tie
+use Rattle.markers.proofs.Reading.{marker-there, marker-missing}
+use Rattle.markers.proofs.ControlBatchRecord.stands.Statement.{statement}
+use Rattle.markers.proofs.ControlBatchRecord.stands.Tie as tie
 
 read-requires : tie.Need-read-requires
 read-requires c κs = search needs

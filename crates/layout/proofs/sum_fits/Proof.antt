@@ -1,7 +1,7 @@
--- `batches::sum_fits` meets its contract. Assumes nothing.
-use Rattle.batches.proofs.Sums.{upper-fits, upper-tells, lower-fits, lower-tells}
-use Rattle.batches.proofs.sum_fits.Statement.{statement}
-use Rattle.batches.proofs.sum_fits.Tie as tie
+-- `layout::sum_fits` meets its contract. Assumes nothing.
+use Rattle.layout.proofs.Sums.{upper-fits, upper-tells, lower-fits, lower-tells}
+use Rattle.layout.proofs.sum_fits.Statement.{statement}
+use Rattle.layout.proofs.sum_fits.Tie as tie
 
 sub-result : tie.Need-sub-result
 sub-result c = upper-fits (c .before .args .a) (c .before .args .b) (c .before .fits .a) (c .before .fits .b) (c .if1 .taken)

@@ -1,8 +1,8 @@
--- `batches::ControlBatchRecord::read` meets its contract. Assumes nothing.
+-- `markers::ControlBatchRecord::read` meets its contract. Assumes nothing.
 use borrow.Author.Needs.{needs}
-use Rattle.batches.proofs.Markers.{no-version, unknown-version, no-type, aborts, commits, unknown-type}
-use Rattle.batches.proofs.ControlBatchRecord.read.Statement.{statement}
-use Rattle.batches.proofs.ControlBatchRecord.read.Tie as tie
+use Rattle.markers.proofs.Reading.{no-version, unknown-version, no-type, aborts, commits, unknown-type}
+use Rattle.markers.proofs.ControlBatchRecord.read.Statement.{statement}
+use Rattle.markers.proofs.ControlBatchRecord.read.Tie as tie
 
 read-int16-requires : tie.Need-read-int16-requires
 read-int16-requires c κs = search needs

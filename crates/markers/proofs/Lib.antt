@@ -1,0 +1,4 @@
+pub mod Encodes
+mod Putting
+mod Reading
+pub mod Single

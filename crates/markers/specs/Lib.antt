@@ -1,0 +1,3 @@
+pub mod Markers
+pub mod Promises
+pub mod Statements
