@@ -12,8 +12,8 @@ use lib.ListN.{length, take, drop, getD}
 use mir.Syntax.{w64}
 use mir.Val.{SFits, toZ, ofZ}
 use mir.ValLaws.{toZ-ofZ}
+use Rattle.numbers.specs.Pick.{pick}
 use Rattle.primitives.specs.declared.Span.{Span as Declared}
-use Rattle.primitives.specs.Pick.{pick}
 use Rattle.primitives.specs.Step.{Step, ok, no, mapStep}
 use Rattle.primitives.specs.Reading.{Span}
 use Rattle.utf8.specs.Judgement.{isUtf8}

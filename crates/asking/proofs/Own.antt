@@ -10,9 +10,9 @@ use native.Mathlib.Nat.{add-zero, zero-add, add-assoc}
 use borrow.Author.Tests.{le-leb, lt-ltb, eq-eqb}
 use lib.IntN.{ℤ, pos, negsuc}
 use lib.ListN.{length}
+use Rattle.numbers.specs.Format.{InBits}
 use Rattle.primitives.specs.Step.{ok, times}
 use Rattle.primitives.specs.Reading.{Span}
-use Rattle.primitives.specs.Format.{InBits}
 use Rattle.primitives.proofs.Steps.{times-onto}
 use Rattle.utf8.proofs.Sequences.{utf8-complete}
 use Rattle.records.specs.Judgement.{HeaderSpans, RecordSpans, bytesOf}

@@ -5,11 +5,11 @@ use mathlib.Core.Option.{Option, none, some}
 use mathlib.Core.List.{List}
 use lib.Dec.{eqb}
 use lib.IntN.{ℤ}
-use Rattle.primitives.specs.Pick.{pick}
+use Rattle.numbers.specs.Pick.{pick}
+use Rattle.numbers.specs.Single.{Single}
+use Rattle.numbers.proofs.Single.{single-value, single-view}
 use Rattle.primitives.specs.Reading.{Span}
-use Rattle.primitives.specs.Single.{Single}
 use Rattle.primitives.specs.Step.{Step, ok, no}
-use Rattle.primitives.proofs.Single.{single-value, single-view}
 use Rattle.records.specs.Judgement.{HeaderSpans}
 use Rattle.records.specs.Rows.{Tables}
 use Rattle.asking.specs.declared.WriteFault.{WriteFault}

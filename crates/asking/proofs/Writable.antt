@@ -9,8 +9,8 @@ use borrow.Author.Tests.{ltb-true}
 use lib.Dec.{leb}
 use lib.IntN.{ℤ, pos, negsuc}
 use lib.ListN.{length, getD, length-append}
+use Rattle.numbers.specs.Format.{InBits}
 use Rattle.primitives.specs.Step.{ok, times}
-use Rattle.primitives.specs.Format.{InBits}
 use Rattle.primitives.proofs.Steps.{and-then-ok, map-ok, pick-ok, times-each}
 use Rattle.primitives.proofs.Picks.{picked}
 use Rattle.utf8.specs.Grammar.{Octets}

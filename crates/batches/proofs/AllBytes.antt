@@ -4,8 +4,8 @@ use Prim.Native.Nat.{ℕ}
 use mathlib.Core.Path.{sym, subst}
 use mathlib.Core.Bool.{Bool}
 use mathlib.Core.List.{List, [], _∷_}
-use Rattle.primitives.specs.Bytes.{Bytes}
-use Rattle.primitives.proofs.AllBytes.{no-bytes, joined-bytes, unsigned-bytes, integer-bytes}
+use Rattle.numbers.specs.Bytes.{Bytes}
+use Rattle.numbers.proofs.AllBytes.{no-bytes, joined-bytes, unsigned-bytes, integer-bytes}
 use Rattle.records.specs.Format.{Record}
 use Rattle.records.specs.Judgement.{RecordSpans}
 use Rattle.records.specs.Statements.{Each}

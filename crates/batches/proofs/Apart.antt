@@ -5,7 +5,7 @@ use mathlib.Core.Path.{_≡_, refl}
 use mathlib.Core.Bool.{Bool, true, false}
 use native.Mathlib.Omega.{arith}
 use lib.Dec.{eqb}
-use Rattle.primitives.specs.Pick.{pick}
+use Rattle.numbers.specs.Pick.{pick}
 use Rattle.records.specs.Format.{Record}
 use Rattle.layout.specs.Batch.{TimestampType, createTime, logAppendTime, Content, control, records, Batch}
 use Rattle.layout.specs.Format.{timestampBit, bit, controlBit, higherBits, attributesOf}

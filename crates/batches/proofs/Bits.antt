@@ -7,7 +7,7 @@ use native.Mathlib.Omega.{arith}
 use native.Mathlib.Decide.{decLt}
 use native.Mathlib.Nat.{div-div-eq-div-mul}
 use lib.Dec.{eqb}
-use Rattle.primitives.specs.Pick.{pick}
+use Rattle.numbers.specs.Pick.{pick}
 use Rattle.layout.specs.Batch.{createTime, logAppendTime}
 use Rattle.layout.specs.Format.{timestampBit, bit}
 use Rattle.opening.specs.Judgement.{apart}

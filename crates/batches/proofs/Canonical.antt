@@ -8,7 +8,7 @@ use native.Mathlib.Omega.{arith}
 use native.Mathlib.Nat.{zero-add}
 use borrow.Author.Tests.{le-leb}
 use lib.ListN.{length}
-use Rattle.primitives.specs.Bytes.{Bytes}
+use Rattle.numbers.specs.Bytes.{Bytes}
 use Rattle.primitives.proofs.Places.{whole}
 use Rattle.records.specs.Format.{Record}
 use Rattle.writing.specs.declared.Written.{Written}

@@ -8,10 +8,10 @@ use mathlib.Core.List.{List, [], _∷_, _++_}
 use native.Mathlib.Omega.{arith}
 use lib.IntN.{pos}
 use lib.ListN.{length, length-append}
-use Rattle.primitives.specs.Bytes.{Bytes}
-use Rattle.primitives.specs.Format.{bigEndian}
-use Rattle.primitives.proofs.Integers.{big-endian-length}
-use Rattle.primitives.proofs.AllBytes.{joined-bytes, big-endian-bytes}
+use Rattle.numbers.specs.Bytes.{Bytes}
+use Rattle.numbers.specs.Format.{bigEndian}
+use Rattle.numbers.proofs.Integers.{big-endian-length}
+use Rattle.numbers.proofs.AllBytes.{joined-bytes, big-endian-bytes}
 use Rattle.crc32c.specs.Crc.{castagnoli, crc32c}
 use Rattle.crc32c.proofs.Division.{castagnoli-reflected}
 use Rattle.crc32c.proofs.Injective.{checksum-held}

@@ -8,8 +8,8 @@ use native.Mathlib.Omega.{arith}
 use borrow.Author.Tests.{leb-true}
 use lib.Dec.{eqb, leb}
 use lib.ListN.{length}
-use Rattle.primitives.specs.Bytes.{Bytes}
-use Rattle.primitives.specs.Pick.{pick}
+use Rattle.numbers.specs.Bytes.{Bytes}
+use Rattle.numbers.specs.Pick.{pick}
 use Rattle.primitives.specs.Step.{Step, ok, no}
 use Rattle.primitives.proofs.Steps.{map-ok}
 use Rattle.records.specs.Judgement.{RecordSpans}

@@ -14,11 +14,11 @@ use lib.Seq.{take-at, drop-at, length-take-le}
 use mir.Syntax.{w32}
 use mir.Val.{toZ}
 use mir.ValLaws.{toZ-pos}
-use Rattle.primitives.specs.Pick.{pick}
-use Rattle.primitives.specs.Promises.{PutPromise}
+use Rattle.numbers.specs.Pick.{pick}
+use Rattle.numbers.specs.Promises.{PutPromise}
+use Rattle.numbers.proofs.Integers.{big-endian-length}
+use Rattle.numbers.proofs.Pens.{put-emits, emit-inside}
 use Rattle.primitives.specs.Step.{Step, ok, no, mapStep}
-use Rattle.primitives.proofs.Integers.{big-endian-length}
-use Rattle.primitives.proofs.Pens.{put-emits, emit-inside}
 use Rattle.primitives.proofs.Refusing.{RefusedBy}
 use Rattle.crc32c.specs.Crc.{crc32c}
 use Rattle.records.specs.Format.{Record}

@@ -11,7 +11,7 @@ use borrow.Author.Tests.{ltb-true, lt-ltb, ne-eqb}
 use lib.Dec.{ltb}
 use lib.IntN.{ℤ, pos, negsuc}
 use lib.ListN.{length, take, length-take}
-use Rattle.primitives.specs.Exactly.{Exactly}
+use Rattle.numbers.specs.Exactly.{Exactly}
 use Rattle.primitives.specs.Step.{ok, no, andThen}
 use Rattle.primitives.specs.Reading.{signedBy, integerAt}
 use Rattle.primitives.proofs.Windows.{big-window}

@@ -7,8 +7,8 @@ use mathlib.Core.List.{List, [], _∷_, _++_}
 use native.Mathlib.Omega.{arith}
 use lib.IntN.{ℤ, pos}
 use lib.ListN.{length, length-append}
-use Rattle.primitives.specs.Format.{bigEndian, complement}
-use Rattle.primitives.proofs.Integers.{unsigned-length, integer-length}
+use Rattle.numbers.specs.Format.{bigEndian, complement}
+use Rattle.numbers.proofs.Integers.{unsigned-length, integer-length}
 use Rattle.primitives.proofs.Places.{whole}
 use Rattle.crc32c.specs.Crc.{crc32c}
 use Rattle.records.specs.Format.{Record}

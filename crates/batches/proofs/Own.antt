@@ -8,7 +8,7 @@ use native.Mathlib.Omega.{arith}
 use borrow.Author.Tests.{le-leb}
 use lib.IntN.{pos}
 use lib.ListN.{length, replicate, length-replicate}
-use Rattle.primitives.specs.Bytes.{Bytes}
+use Rattle.numbers.specs.Bytes.{Bytes}
 use Rattle.primitives.specs.Stands.{Stands}
 use Rattle.primitives.specs.Step.{ok, mapStep}
 use Rattle.records.specs.Format.{Record}

@@ -8,10 +8,11 @@ use native.Mathlib.Omega.{arith}
 use native.Mathlib.Nat.{add-zero}
 use lib.IntN.{ℤ, pos}
 use lib.ListN.{length}
+use Rattle.numbers.specs.Format.{Unsigned, Integer}
+use Rattle.numbers.proofs.Integers.{unsigned-length, integer-length}
 use Rattle.primitives.specs.Stands.{Stands}
-use Rattle.primitives.specs.Format.{Unsigned, Integer}
 use Rattle.primitives.proofs.Places.{first, second}
-use Rattle.primitives.proofs.Integers.{unsigned-complete, integer-complete, unsigned-length, integer-length}
+use Rattle.primitives.proofs.Integers.{unsigned-complete, integer-complete}
 use Rattle.primitives.proofs.Values.{unsigned-value, integer-value}
 use Rattle.crc32c.specs.Crc.{crc32c}
 use Rattle.records.specs.Format.{Record}

@@ -6,10 +6,10 @@ use mathlib.Core.List.{List, [], _∷_, map}
 use native.Mathlib.Omega.{arith}
 use native.Mathlib.Nat.{add-zero}
 use lib.ListN.{length, take, drop}
-use Rattle.primitives.specs.Bytes.{Bytes}
+use Rattle.numbers.specs.Bytes.{Bytes}
+use Rattle.numbers.specs.Format.{Unsigned, Integer}
 use Rattle.primitives.specs.Step.{ok}
 use Rattle.primitives.specs.Stands.{Stands, Encoding}
-use Rattle.primitives.specs.Format.{Unsigned, Integer}
 use Rattle.primitives.specs.Reading.{integerAt}
 use Rattle.primitives.proofs.Integers.{unsigned-in, unsigned-sound, integer-sound}
 use Rattle.primitives.proofs.Places.{nothing, shows, joined}

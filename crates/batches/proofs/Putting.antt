@@ -9,8 +9,8 @@ use lib.ListN.{length, take, drop}
 use mir.Syntax.{w32}
 use mir.Val.{toZ}
 use mir.ValLaws.{toZ-pos}
-use Rattle.primitives.specs.Promises.{PutPromise}
-use Rattle.primitives.proofs.Pens.{put-emits, emit-inside}
+use Rattle.numbers.specs.Promises.{PutPromise}
+use Rattle.numbers.proofs.Pens.{put-emits, emit-inside}
 use Rattle.layout.specs.declared.BatchFields.{BatchFields}
 use Rattle.layout.specs.Table.{uncounted, fixedPart}
 use Rattle.layout.specs.Batch.{Fields}

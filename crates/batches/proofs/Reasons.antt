@@ -7,7 +7,7 @@ use mathlib.Core.Logic.{_⊎_, inl, inr}
 use mathlib.Core.List.{List}
 use native.Mathlib.Omega.{arith}
 use lib.ListN.{length, take}
-use Rattle.primitives.specs.Exactly.{Exactly}
+use Rattle.numbers.specs.Exactly.{Exactly}
 use Rattle.primitives.specs.Step.{Step, ok, no}
 use Rattle.records.specs.Judgement.{RecordSpans}
 use Rattle.records.specs.Rows.{Tables}

@@ -9,7 +9,7 @@ use native.Mathlib.Omega.{arith}
 use borrow.Author.Tests.{leb-true, leb-false, le-leb, lt-leb}
 use lib.Dec.{leb}
 use lib.ListN.{length}
-use Rattle.primitives.proofs.Picks.{both-hold, one-fails, second-fails}
+use Rattle.numbers.proofs.Picks.{both-hold, one-fails, second-fails}
 use Rattle.records.specs.Judgement.{RecordSpans}
 use Rattle.records.specs.Rows.{headersIn, Tables}
 use Rattle.layout.specs.Batch.{Content, control, records}

@@ -5,8 +5,8 @@ use mathlib.Core.Path.{_≡_, refl, sym, ap, _∙_}
 use mathlib.Core.Option.{Option, none, some}
 use mathlib.Core.List.{List}
 use lib.IntN.{ℤ}
-use Rattle.primitives.specs.Single.{Single}
-use Rattle.primitives.proofs.Single.{single-value, single-view, single-exactly}
+use Rattle.numbers.specs.Single.{Single}
+use Rattle.numbers.proofs.Single.{single-value, single-view, single-exactly}
 use Rattle.records.specs.Rows.{Tables}
 use Rattle.writing.proofs.Single.{single-written, single-write-by}
 use Rattle.layout.specs.declared.RecordBatchTimestampType.{RecordBatchTimestampType}

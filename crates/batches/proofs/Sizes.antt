@@ -6,7 +6,7 @@ use mathlib.Core.Bool.{Bool, false}
 use mathlib.Core.List.{List, _++_}
 use native.Mathlib.Omega.{arith}
 use lib.ListN.{length, length-append}
-use Rattle.primitives.proofs.Integers.{unsigned-length, integer-length}
+use Rattle.numbers.proofs.Integers.{unsigned-length, integer-length}
 use Rattle.records.specs.Format.{Record}
 use Rattle.records.proofs.Sizes.{total-sizes}
 use Rattle.layout.specs.Table.{fixedPart, uncountedFields, uncheckedFields}

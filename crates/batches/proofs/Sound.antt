@@ -12,11 +12,11 @@ use lib.Dec.{ltb}
 use lib.IntN.{ℤ, pos}
 use lib.ListN.{length, take, length-map}
 use lib.Seq.{length-take-le}
-use Rattle.primitives.specs.Bytes.{Bytes}
-use Rattle.primitives.specs.Pick.{pick}
+use Rattle.numbers.specs.Bytes.{Bytes}
+use Rattle.numbers.specs.Pick.{pick}
+use Rattle.numbers.specs.Format.{Unsigned, Integer}
 use Rattle.primitives.specs.Step.{ok, no, andThen}
 use Rattle.primitives.specs.Stands.{Stands, Encoding}
-use Rattle.primitives.specs.Format.{Unsigned, Integer}
 use Rattle.primitives.specs.Reading.{signedBy, integerAt}
 use Rattle.primitives.proofs.Steps.{ok-not-no, and-then-ok, map-ok}
 use Rattle.primitives.proofs.Places.{joined, all-left}

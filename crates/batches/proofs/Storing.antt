@@ -6,8 +6,8 @@ use mathlib.Core.Bool.{Bool, true, false}
 use mathlib.Core.List.{List}
 use native.Mathlib.Omega.{arith}
 use lib.ListN.{length}
+use Rattle.numbers.specs.Pick.{pick}
 use Rattle.primitives.specs.declared.Fault.{Fault}
-use Rattle.primitives.specs.Pick.{pick}
 use Rattle.primitives.specs.Step.{Step, ok, no, mapStep}
 use Rattle.records.specs.declared.RecordFault.{RecordFault}
 use Rattle.records.specs.Judgement.{RecordSpans}

@@ -14,14 +14,14 @@ use lib.ListN.{length, getD, take, drop, length-map}
 use lib.Seq.{take-all}
 use mir.Syntax.{w8}
 use mir.Val.{Fits}
+use Rattle.numbers.specs.Bytes.{Bytes}
+use Rattle.numbers.specs.Format.{Unsigned}
+use Rattle.numbers.proofs.Picks.{both-hold}
 use Rattle.primitives.specs.declared.Cursor.{Cursor}
-use Rattle.primitives.specs.Bytes.{Bytes}
 use Rattle.primitives.specs.Step.{Step, ok, no, mapStep}
 use Rattle.primitives.specs.Stands.{Stands}
-use Rattle.primitives.specs.Format.{Unsigned}
 use Rattle.primitives.specs.Reading.{big, signedBy}
 use Rattle.primitives.proofs.Integers.{signed-low, signed-high}
-use Rattle.primitives.proofs.Picks.{both-hold}
 use Rattle.primitives.proofs.Places.{whole, all-left}
 use Rattle.primitives.proofs.Steps.{map-ok}
 use Rattle.records.specs.Format.{Record, RecordsBytes}

@@ -6,7 +6,7 @@ use mathlib.Core.Bool.{Bool, true, false}
 use mathlib.Core.List.{List, _++_}
 use native.Mathlib.Omega.{arith}
 use lib.ListN.{length}
-use Rattle.primitives.specs.Pick.{pick}
+use Rattle.numbers.specs.Pick.{pick}
 use Rattle.primitives.proofs.Places.{in-front, whole, no-rest}
 use Rattle.records.specs.Format.{Record}
 use Rattle.layout.specs.Batch.{Batch}

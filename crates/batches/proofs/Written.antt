@@ -11,7 +11,7 @@ use borrow.Author.Tests.{leb-false}
 use lib.Dec.{eqb, leb}
 use lib.ListN.{length, take, drop}
 use lib.Seq.{take-at}
-use Rattle.primitives.specs.Pick.{pick}
+use Rattle.numbers.specs.Pick.{pick}
 use Rattle.primitives.specs.Step.{Step, ok, no}
 use Rattle.primitives.proofs.Refusing.{RefusedBy, map-refused}
 use Rattle.records.specs.Judgement.{RecordSpans}

@@ -16,7 +16,7 @@ use mathlib.Core.Logic.{_⊎_}
 use mathlib.Core.List.{List, _++_}
 use lib.IntN.{pos}
 use lib.ListN.{length, take}
-use Rattle.primitives.specs.Exactly.{Exactly}
+use Rattle.numbers.specs.Exactly.{Exactly}
 use Rattle.records.specs.Judgement.{RecordSpans}
 use Rattle.records.specs.Rows.{Tables}
 use Rattle.writing.specs.declared.Written.{Written}

@@ -6,7 +6,7 @@ use mathlib.Core.Bool.{Bool, true}
 use mathlib.Core.List.{List}
 use lib.IntN.{ℤ, pos, _+ℤ_}
 use lib.ListN.{length}
-use Rattle.primitives.specs.Exactly.{Exactly}
+use Rattle.numbers.specs.Exactly.{Exactly}
 use Rattle.records.specs.Rows.{Tables}
 use Rattle.writing.specs.declared.Written.{Written}
 use Rattle.writing.specs.Answers.{given, viewWritten, measured}

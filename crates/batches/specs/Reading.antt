@@ -4,7 +4,7 @@ use mathlib.Core.Bool.{Bool, false}
 use mathlib.Core.List.{List}
 use lib.Dec.{eqb, ltb}
 use lib.ListN.{getD}
-use Rattle.primitives.specs.Pick.{pick}
+use Rattle.numbers.specs.Pick.{pick}
 use Rattle.reading.specs.declared.RecordsRead.{RecordsRead}
 use Rattle.opening.specs.declared.BatchFault.{BatchFault}
 use Rattle.batches.specs.declared.RecordBatch.{RecordBatch}

@@ -8,10 +8,10 @@ use mathlib.Core.Logic.{_⊎_}
 use mathlib.Core.List.{List, _++_}
 use lib.IntN.{ℤ, pos}
 use lib.ListN.{length, take, drop, getD}
-use Rattle.primitives.specs.Bytes.{Bytes}
-use Rattle.primitives.specs.Exactly.{Exactly}
+use Rattle.numbers.specs.Bytes.{Bytes}
+use Rattle.numbers.specs.Exactly.{Exactly}
+use Rattle.numbers.specs.Format.{InBits}
 use Rattle.primitives.specs.Step.{ok}
-use Rattle.primitives.specs.Format.{InBits}
 use Rattle.records.specs.Format.{Record}
 use Rattle.records.specs.Judgement.{RecordSpans}
 use Rattle.records.specs.Rows.{Tables}

@@ -6,9 +6,9 @@ use mathlib.Core.List.{List, [], _++_}
 use lib.Dec.{eqb, leb}
 use lib.IntN.{pos}
 use lib.ListN.{length, replicate}
-use Rattle.primitives.specs.Pick.{pick}
+use Rattle.numbers.specs.Pick.{pick}
+use Rattle.numbers.specs.Format.{bigEndian}
 use Rattle.primitives.specs.Step.{Step, ok, no, mapStep}
-use Rattle.primitives.specs.Format.{bigEndian}
 use Rattle.crc32c.specs.Crc.{crc32c}
 use Rattle.records.specs.Format.{Record}
 use Rattle.records.specs.Written.{writtenRecords}

@@ -9,8 +9,8 @@ use native.Mathlib.Omega.{arith}
 use borrow.Author.Tests.{eq-eqb}
 use lib.IntN.{pos}
 use lib.ListN.{length, getD, take, length-append}
-use Rattle.primitives.specs.Bytes.{Bytes}
-use Rattle.primitives.specs.Format.{shortest}
+use Rattle.numbers.specs.Bytes.{Bytes}
+use Rattle.numbers.specs.Format.{shortest}
 use Rattle.primitives.specs.Reading.{signedBy}
 use Rattle.primitives.specs.Stands.{Stands, Encoding}
 use Rattle.primitives.specs.Step.{ok}

@@ -10,9 +10,9 @@ use native.Mathlib.Nat.{add-zero, le-refl}
 use lib.ListN.{length, getD, take}
 use mir.Syntax.{w8, w64}
 use mir.Val.{Fits, toZ}
+use Rattle.numbers.specs.Exactly.{Exactly}
 use Rattle.primitives.specs.declared.Cursor.{Cursor}
 use Rattle.primitives.specs.declared.Fault.{Fault}
-use Rattle.primitives.specs.Exactly.{Exactly}
 use Rattle.primitives.specs.Stands.{Stands, Encoding}
 use Rattle.primitives.specs.Step.{ok, mapStep}
 use Rattle.primitives.proofs.Places.{nothing, joined, first, second}

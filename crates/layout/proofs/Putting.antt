@@ -10,10 +10,10 @@ use lib.Seq.{take-all, take-at, drop-at}
 use mir.Syntax.{Width, w16, w32, w64}
 use mir.Val.{SFits, toZ, ofZ}
 use mir.ValLaws.{toZ-pos, toZ-ofZ}
-use Rattle.primitives.specs.Format.{bigEndian}
-use Rattle.primitives.specs.Pen.{Pen, pen, emit}
-use Rattle.primitives.proofs.Integers.{big-endian-length}
-use Rattle.primitives.proofs.Pens.{emit-emit, emit-inside, all-put}
+use Rattle.numbers.specs.Format.{bigEndian}
+use Rattle.numbers.specs.Pen.{Pen, pen, emit}
+use Rattle.numbers.proofs.Integers.{big-endian-length}
+use Rattle.numbers.proofs.Pens.{emit-emit, emit-inside, all-put}
 use Rattle.crc32c.specs.Crc.{continued, castagnoli, crc32c}
 use Rattle.crc32c.proofs.Joined.{checksum-joined}
 use Rattle.layout.specs.Table.{fixedChecked, fixedPart}

@@ -5,9 +5,9 @@ use mathlib.Core.Bool.{Bool}
 use mathlib.Core.List.{List}
 use mathlib.Core.Option.{Option, none, some}
 use lib.IntN.{ℤ}
-use Rattle.primitives.specs.declared.Int16.{Int16}
-use Rattle.primitives.specs.Single.{Single}
-use Rattle.primitives.proofs.Single.{single-value, single-view}
+use Rattle.numbers.specs.declared.Int16.{Int16}
+use Rattle.numbers.specs.Single.{Single}
+use Rattle.numbers.proofs.Single.{single-value, single-view}
 use Rattle.layout.specs.declared.RecordBatchTimestampType.{RecordBatchTimestampType}
 use Rattle.layout.specs.declared.BatchFields.{BatchFields}
 use Rattle.layout.specs.declared.RecordTime.{RecordTime}

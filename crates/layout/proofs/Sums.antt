@@ -13,8 +13,8 @@ use lib.Signed.{leZ}
 use mir.Syntax.{w32, w64}
 use mir.Val.{SFits, toZ, ofZ}
 use mir.ValLaws.{toZ-ofZ}
-use Rattle.primitives.specs.Pick.{pick}
-use Rattle.primitives.proofs.Signs.{widen-fits, widen-back}
+use Rattle.numbers.specs.Pick.{pick}
+use Rattle.numbers.proofs.Signs.{widen-fits, widen-back}
 use Rattle.layout.specs.Table.{uncounted}
 use Rattle.layout.specs.Batch.{Fields}
 use Rattle.layout.specs.Time.{in64, recordTime}

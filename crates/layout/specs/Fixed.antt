@@ -3,7 +3,7 @@ use Prim.Native.Nat.{ℕ, _+_, _*_}
 use mathlib.Core.Bool.{Bool}
 use mathlib.Core.List.{List, [], _∷_, _++_}
 use lib.IntN.{ℤ, pos}
-use Rattle.primitives.specs.Format.{bigEndian, complement}
+use Rattle.numbers.specs.Format.{bigEndian, complement}
 use Rattle.crc32c.specs.Crc.{crc32c}
 use Rattle.layout.specs.declared.RecordBatchTimestampType.{RecordBatchTimestampType}
 use Rattle.layout.specs.declared.BatchFields.{BatchFields}

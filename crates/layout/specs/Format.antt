@@ -6,7 +6,7 @@ use mathlib.Core.Bool.{Bool, true, false}
 use mathlib.Core.List.{List, [], _∷_, _++_}
 use lib.IntN.{ℤ, pos, negsuc}
 use lib.ListN.{length}
-use Rattle.primitives.specs.Format.{Unsigned, Integer}
+use Rattle.numbers.specs.Format.{Unsigned, Integer}
 use Rattle.crc32c.specs.Crc.{crc32c}
 use Rattle.records.specs.Format.{Record, RecordsBytes}
 use Rattle.layout.specs.Table.{FixedFields, table, uncountedFields, uncheckedFields, checkedFields}

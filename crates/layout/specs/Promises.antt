@@ -5,7 +5,7 @@ use mathlib.Core.Path.{_≡_}
 use mathlib.Core.Bool.{Bool}
 use mathlib.Core.List.{List}
 use lib.IntN.{ℤ, pos, _+ℤ_}
-use Rattle.primitives.specs.declared.Int16.{Int16}
+use Rattle.numbers.specs.declared.Int16.{Int16}
 use Rattle.layout.specs.declared.BatchFields.{BatchFields}
 use Rattle.layout.specs.declared.RecordTime.{RecordTime}
 use Rattle.layout.specs.Table.{uncounted}

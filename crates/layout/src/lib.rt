@@ -1,16 +1,16 @@
 // The fixed fields of a batch, and how they are laid out as bytes. Names follow src/protocol/record.rs of rskafka 0.6.0.
 use crc32c::crc32c;
 use crc32c::update;
-use primitives::Int8;
-use primitives::Int16;
-use primitives::Int32;
-use primitives::Int64;
-use primitives::Uint32;
-use primitives::put;
+use numbers::Int8;
+use numbers::Int16;
+use numbers::Int32;
+use numbers::Int64;
+use numbers::Uint32;
+use numbers::put;
 ghost use mathlib.Core.Path.{_≡_};
 ghost use lib.IntN.{_+ℤ_};
-ghost use Rattle.primitives.specs.Format.{bigEndian};
-ghost use Rattle.primitives.specs.Pen.{pen, emit};
+ghost use Rattle.numbers.specs.Format.{bigEndian};
+ghost use Rattle.numbers.specs.Pen.{pen, emit};
 ghost use Rattle.layout.specs.Format.{timestampBit, bit};
 ghost use Rattle.layout.specs.Time.{in64};
 ghost use Rattle.layout.specs.Fixed.{viewType, viewBatchFields, signed, frameBytes, timesBytes, producerBytes, fixedBytes};

@@ -1,8 +1,8 @@
 -- Each promise admits a single answer: the entry and the tables are given. Assumes nothing.
 use Prim.Native.Nat.{ℕ}
 use mathlib.Core.List.{List}
-use Rattle.primitives.specs.Single.{Single}
-use Rattle.primitives.proofs.Single.{single-value}
+use Rattle.numbers.specs.Single.{Single}
+use Rattle.numbers.proofs.Single.{single-value}
 use Rattle.records.specs.Rows.{Tables}
 use Rattle.listing.specs.Promises.{ListFirstPromise, ListAtPromise}
 

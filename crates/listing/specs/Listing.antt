@@ -4,7 +4,7 @@ use mathlib.Core.List.{List, [], _++_}
 use lib.Dec.{leb, ltb}
 use lib.IntN.{ℤ}
 use lib.ListN.{length, drop}
-use Rattle.primitives.specs.Pick.{pick}
+use Rattle.numbers.specs.Pick.{pick}
 use Rattle.layout.specs.Batch.{abort, commit}
 use Rattle.opening.specs.Judgement.{Judgement, more, refused, accepted, judge}
 use Rattle.batches.specs.Answers.{Kind, ofRecords, ofMarker, kindOf, recordsIn, headersOf, Rooms, hasRoom}

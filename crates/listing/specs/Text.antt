@@ -5,7 +5,7 @@ use Prim.Native.String.{String, [] as noText, _∷_ as _before_}
 use mathlib.Core.List.{List, [], _∷_, _++_}
 use lib.Dec.{ltb}
 use lib.IntN.{ℤ, pos, negsuc}
-use Rattle.primitives.specs.Pick.{pick}
+use Rattle.numbers.specs.Pick.{pick}
 
 -- the codes of a text's characters
 unfoldable pub ascii : String → List ℕ

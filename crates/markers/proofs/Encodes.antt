@@ -3,7 +3,7 @@ use Prim.Native.Nat.{_+_}
 use mathlib.Core.Path.{refl, _∙_}
 use mathlib.Core.List.{_++_}
 use native.Mathlib.Omega.{arith}
-use Rattle.primitives.specs.Format.{bigEndian}
+use Rattle.numbers.specs.Format.{bigEndian}
 use Rattle.layout.specs.Batch.{abort, commit}
 use Rattle.markers.specs.Markers.{writtenMarker}
 use Rattle.markers.specs.Statements.{MarkerEncodes, MarkerWritten}

@@ -2,8 +2,8 @@
 use Prim.Native.Nat.{ℕ}
 use mathlib.Core.Path.{_≡_, refl, sym, ap, _∙_, subst}
 use mathlib.Core.List.{List, [], _∷_}
-use Rattle.primitives.specs.Format.{bigEndian}
-use Rattle.primitives.specs.Promises.{PutOutcome, PutPromise}
+use Rattle.numbers.specs.Format.{bigEndian}
+use Rattle.numbers.specs.Promises.{PutOutcome, PutPromise}
 use Rattle.layout.specs.Batch.{abort, commit}
 use Rattle.markers.specs.declared.ControlBatchRecord.{ControlBatchRecord}
 use Rattle.markers.specs.Markers.{writtenMarker, viewMarker}

@@ -10,9 +10,9 @@ use lib.IntN.{ℤ}
 use lib.ListN.{length}
 use mir.Syntax.{w16}
 use mir.Val.{SFits, ofZ}
+use Rattle.numbers.specs.declared.Int16.{Int16}
 use Rattle.primitives.specs.declared.Cursor.{Cursor}
 use Rattle.primitives.specs.declared.Fault.{Fault}
-use Rattle.primitives.specs.declared.Int16.{Int16}
 use Rattle.primitives.specs.declared.Int16Read.{Int16Read}
 use Rattle.primitives.specs.Step.{Step, ok, no, andThen}
 use Rattle.primitives.specs.Reading.{integerAt}

@@ -2,9 +2,9 @@
 use Prim.Native.Nat.{ℕ}
 use mathlib.Core.Path.{_≡_, refl, ap}
 use mathlib.Core.List.{List}
-use Rattle.primitives.specs.Single.{Single}
+use Rattle.numbers.specs.Single.{Single}
+use Rattle.numbers.proofs.Single.{single-value, single-view, single-put}
 use Rattle.primitives.specs.Step.{Step, ok, no}
-use Rattle.primitives.proofs.Single.{single-value, single-view, single-put}
 use Rattle.layout.specs.Batch.{Marker, abort, commit}
 use Rattle.opening.proofs.Single.{refusal, refusal-again}
 use Rattle.markers.specs.declared.ControlBatchRecord.{ControlBatchRecord}

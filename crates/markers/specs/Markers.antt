@@ -2,8 +2,8 @@
 use Prim.Native.Nat.{ℕ}
 use mathlib.Core.Bool.{Bool, true, false}
 use mathlib.Core.List.{List, _++_}
+use Rattle.numbers.specs.Format.{bigEndian}
 use Rattle.primitives.specs.Step.{Step, ok, no}
-use Rattle.primitives.specs.Format.{bigEndian}
 use Rattle.layout.specs.Batch.{Marker, abort, commit}
 use Rattle.layout.specs.Format.{markerType}
 use Rattle.opening.specs.Answers.{batchNumberOf}

@@ -4,7 +4,7 @@ use Prim.Native.Nat.{ℕ}
 use mathlib.Core.Path.{_≡_}
 use mathlib.Core.Bool.{Bool}
 use mathlib.Core.List.{List}
-use Rattle.primitives.specs.Promises.{PutOutcome, PutPromise}
+use Rattle.numbers.specs.Promises.{PutOutcome, PutPromise}
 use Rattle.opening.specs.Judgement.{bareMarkerAt}
 use Rattle.markers.specs.declared.ControlBatchRecord.{ControlBatchRecord}
 use Rattle.markers.specs.declared.ControlBatchRecordRead.{ControlBatchRecordRead}

@@ -1,8 +1,8 @@
 // The marker of a control batch, read and written. Names follow src/protocol/record.rs of rskafka 0.6.0.
+use numbers::put;
 use opening::BatchFault;
 use primitives::Cursor;
 use primitives::Int16Read;
-use primitives::put;
 use records::RecordFault;
 ghost use mathlib.Core.Path.{_≡_};
 ghost use Rattle.opening.specs.Judgement.{endedAt};

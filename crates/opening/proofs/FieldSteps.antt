@@ -6,12 +6,12 @@ use mathlib.Core.List.{List}
 use mir.Syntax.{w8, w16, w32, w64}
 use mir.Val.{SFits, toZ, ofZ}
 use mir.ValLaws.{toZ-ofZ}
+use Rattle.numbers.specs.declared.Int8.{Int8}
+use Rattle.numbers.specs.declared.Int16.{Int16}
+use Rattle.numbers.specs.declared.Int32.{Int32}
+use Rattle.numbers.specs.declared.Int64.{Int64}
 use Rattle.primitives.specs.declared.Cursor.{Cursor}
 use Rattle.primitives.specs.declared.Fault.{Fault}
-use Rattle.primitives.specs.declared.Int8.{Int8}
-use Rattle.primitives.specs.declared.Int16.{Int16}
-use Rattle.primitives.specs.declared.Int32.{Int32}
-use Rattle.primitives.specs.declared.Int64.{Int64}
 use Rattle.primitives.specs.declared.Int8Read.{Int8Read}
 use Rattle.primitives.specs.declared.Int16Read.{Int16Read}
 use Rattle.primitives.specs.declared.Int32Read.{Int32Read}

@@ -13,15 +13,15 @@ use lib.Signed.{ltZ, nonNeg, natAbs-le}
 use mir.Syntax.{w8, w32, w64}
 use mir.Val.{Fits, SFits, toZ, ofZ}
 use mir.ValLaws.{toZ-ofZ}
+use Rattle.numbers.specs.declared.Int16.{Int16}
+use Rattle.numbers.specs.declared.Int32.{Int32}
+use Rattle.numbers.specs.Pick.{pick}
+use Rattle.numbers.specs.Format.{bigEndian, complement}
 use Rattle.primitives.specs.declared.Cursor.{Cursor}
 use Rattle.primitives.specs.declared.Fault.{Fault}
-use Rattle.primitives.specs.declared.Int16.{Int16}
-use Rattle.primitives.specs.declared.Int32.{Int32}
 use Rattle.primitives.specs.declared.Int16Read.{Int16Read}
 use Rattle.primitives.specs.declared.Int32Read.{Int32Read}
-use Rattle.primitives.specs.Pick.{pick}
 use Rattle.primitives.specs.Step.{Step, ok, no}
-use Rattle.primitives.specs.Format.{bigEndian, complement}
 use Rattle.primitives.specs.Reading.{unsignedAt, signedBy, integerAt}
 use Rattle.primitives.specs.Answers.{numberOf, viewInt16, viewInt32}
 use Rattle.primitives.proofs.Integers.{big-below, complement-of-signed}

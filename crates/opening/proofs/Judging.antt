@@ -11,8 +11,8 @@ use lib.Seq.{length-take-le}
 use mir.Syntax.{w32, w64}
 use mir.Val.{SFits, toZ, ofZ}
 use mir.ValLaws.{toZ-ofZ}
+use Rattle.numbers.specs.Pick.{pick}
 use Rattle.primitives.specs.declared.Cursor.{Cursor}
-use Rattle.primitives.specs.Pick.{pick}
 use Rattle.primitives.specs.Step.{Step, ok, no, andThen, mapStep}
 use Rattle.primitives.specs.Reading.{signedBy}
 use Rattle.primitives.proofs.Picks.{picked}

@@ -13,9 +13,9 @@ use lib.Seq.{take-all}
 use mir.Syntax.{w32, w64}
 use mir.Val.{SFits, toZ, ofZ}
 use mir.ValLaws.{toZ-ofZ}
+use Rattle.numbers.specs.declared.Uint32.{Uint32}
 use Rattle.primitives.specs.declared.Cursor.{Cursor}
 use Rattle.primitives.specs.declared.Fault.{Fault}
-use Rattle.primitives.specs.declared.Uint32.{Uint32}
 use Rattle.primitives.specs.declared.Uint32Read.{Uint32Read}
 use Rattle.primitives.specs.Step.{ok, no}
 use Rattle.primitives.specs.Reading.{unsignedAt}

@@ -4,9 +4,9 @@ use mathlib.Core.Path.{_≡_, refl}
 use mathlib.Core.List.{List}
 use lib.Dec.{eqb}
 use Rattle.primitives.specs.declared.Fault.the-variants.{PastEnd, BeyondLimits, NegativeLength}
-use Rattle.primitives.specs.Pick.{pick}
-use Rattle.primitives.specs.Single.{Single}
-use Rattle.primitives.proofs.Single.{single-value, single-view}
+use Rattle.numbers.specs.Pick.{pick}
+use Rattle.numbers.specs.Single.{Single}
+use Rattle.numbers.proofs.Single.{single-value, single-view}
 use Rattle.records.specs.declared.RecordFault.{RecordFault}
 use Rattle.records.specs.declared.RecordFault.the-variants.{Field, KeyNotUtf8, BytesLeft}
 use Rattle.layout.proofs.Single.{fields, fields-again}

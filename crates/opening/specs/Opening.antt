@@ -4,7 +4,7 @@ use mathlib.Core.List.{List}
 use lib.Dec.{eqb, ltb}
 use lib.IntN.{ℤ, pos, negsuc}
 use lib.ListN.{take, drop}
-use Rattle.primitives.specs.Pick.{pick}
+use Rattle.numbers.specs.Pick.{pick}
 use Rattle.primitives.specs.Step.{Step, ok, no, andThen, mapStep}
 use Rattle.primitives.specs.Reading.{unsignedAt, integerAt}
 use Rattle.primitives.specs.Answers.{numberOf}

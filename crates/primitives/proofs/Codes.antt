@@ -8,10 +8,10 @@ use native.Mathlib.Decide.{decLt}
 use native.Mathlib.Nat.{mul-assoc, mul-le-mul, one-le-pow, pow-succ'}
 use borrow.Author.Tests.{lt-ltb, le-ltb}
 use lib.ListN.{length, getD}
-use Rattle.primitives.specs.Bytes.{Bytes}
+use Rattle.numbers.specs.Bytes.{Bytes}
+use Rattle.numbers.specs.Format.{groups}
 use Rattle.primitives.specs.Step.{Step, ok, mapStep}
 use Rattle.primitives.specs.Stands.{Stands}
-use Rattle.primitives.specs.Format.{groups}
 use Rattle.primitives.specs.Reading.{byteAt, codeAt}
 use Rattle.primitives.proofs.Places.{one, here, byte, after, joined}
 

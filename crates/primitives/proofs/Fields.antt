@@ -5,13 +5,16 @@ use Prim.Native.Nat.{ℕ, _-_, _*_, _^_, _≤_, _<_}
 use mathlib.Core.Path.{_≡_, refl, sym, ap, _∙_}
 use mathlib.Core.List.{List}
 use native.Mathlib.Omega.{arith}
-use lib.IntN.{ℤ, pos, negsuc}
+use native.Mathlib.Decide.{decLt}
+use lib.IntN.{ℤ}
 use lib.ListN.{getD}
 use lib.Pow.{pow-pos}
 use lib.Signed.{mag}
 use mir.Syntax.{Width, w8, w16, w32, w64, w128}
 use mir.Val.{Fits, SFits, toZ, ofZ, bytes, hbits}
 use mir.ValLaws.{toZ-ofZ}
+use Rattle.numbers.proofs.Signs.{cast-fits, cast-back}
+use Rattle.numbers.proofs.Widths.{sign-bit}
 use Rattle.primitives.specs.declared.Cursor.{Cursor}
 use Rattle.primitives.specs.declared.Fault.{Fault}
 use Rattle.primitives.specs.declared.RawRead.{RawRead}
@@ -19,9 +22,7 @@ use Rattle.primitives.specs.Step.{ok, no, mapStep}
 use Rattle.primitives.specs.Reading.{unsignedAt, signedBy, integerAt}
 use Rattle.primitives.specs.Answers.{numberOf, viewRaw}
 use Rattle.primitives.specs.Promises.{Halved}
-use Rattle.primitives.specs.Format.{bigEndian, complement, InBits}
-use Rattle.primitives.proofs.Integers.{unsigned-sound, complement-narrow}
-use Rattle.primitives.proofs.Signs.{signed-fits, cast-fits, cast-back, widen-back}
+use Rattle.primitives.proofs.Integers.{unsigned-sound, signed-low, signed-high}
 
 -- ---- the width of a type: as many bytes, whose numbers its half splits in two
 halves : (w : Width) → 256 ^ bytes w ≡ 2 * 2 ^ hbits w
@@ -30,13 +31,6 @@ halves w16 = refl
 halves w32 = refl
 halves w64 = refl
 halves w128 = refl
-
-sign-bit : (w : Width) → 8 * bytes w - 1 ≡ hbits w
-sign-bit w8 = refl
-sign-bit w16 = refl
-sign-bit w32 = refl
-sign-bit w64 = refl
-sign-bit w128 = refl
 
 -- ---- unsigned
 module _ (n : ℕ) (s : List ℕ) (at : ℕ) (r : RawRead) (e : viewRaw r ≡ unsignedAt n s at) where
@@ -55,6 +49,14 @@ module _ (n : ℕ) (s : List ℕ) (at : ℕ) (r : RawRead) (e : viewRaw r ≡ un
   integer-refused f g = rw (sym (unsigned-refused f g))
 
 -- ---- signed
+-- the type whose half splits the numbers holds what they stand for
+pub signed-fits : (w : Width) (v : ℕ) → v < 2 * 2 ^ hbits w → SFits w (signedBy (2 ^ hbits w) v)
+signed-fits w v h =
+    elim (decLt v (2 ^ hbits w)) [
+      | yes l ↦ rw (signed-low (2 ^ hbits w) v l) (record { sfits = l })
+      | Dec.no g ↦ rw (signed-high (2 ^ hbits w) v (omega arith)) (record { sfits = omega arith })
+    ]
+
 module _ (w : Width) (s : List ℕ) (at : ℕ) (r : RawRead) (v : ℕ) (next : Cursor) (bounds : (i : ℕ) → Fits w8 (getD s i 0))
     (e : viewRaw r ≡ unsignedAt (bytes w) s at) (f : r ≡ RawRead.Got v next) where
   below : v < 2 * 2 ^ hbits w
@@ -81,22 +83,3 @@ module _ (w : Width) (s : List ℕ) (at : ℕ) (r : RawRead) (v : ℕ) (next : C
 
     pub widest-got : ok (toZ w64 (ofZ w64 z)) (next .at) ≡ integerAt (bytes w) s at
     widest-got = ap (λ (x : ℤ). ok x (next .at)) (toZ-ofZ w64 z (record { sfits = fits })) ∙ integer-is
-
--- ---- the bytes of a number that was widened to 64 bits
-sixty-four : (w : Width) → hbits w ≤ 63 → bytes w ≤ 8
-sixty-four w8 h = omega arith
-sixty-four w16 h = omega arith
-sixty-four w32 h = omega arith
-sixty-four w64 h = omega arith
-sixty-four w128 h = absurd (omega arith)
-
-in-bits : (w : Width) (z : ℤ) → SFits w z → InBits (8 * bytes w) z
-in-bits w (pos n) f = rw (sign-bit w) (f .sfits)
-in-bits w (negsuc k) f = rw (sign-bit w) (f .sfits)
-
-pub narrow-bytes : (w : Width) (z : ℤ) (v : ℕ) (r : List ℕ) → hbits w ≤ 63 → SFits w z
-    → v ≡ complement 64 (toZ w64 (ofZ w64 (toZ w (ofZ w z)))) → r ≡ bigEndian (bytes w) v → r ≡ bigEndian (bytes w) (complement (8 * bytes w) z)
-narrow-bytes w z v r h f e g =
-    g
-    ∙ ap (bigEndian (bytes w)) (e ∙ ap (complement 64) (widen-back w w64 z h f))
-    ∙ complement-narrow (bytes w) z (sixty-four w h) (in-bits w z f)

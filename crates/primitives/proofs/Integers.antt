@@ -5,17 +5,17 @@ use mathlib.Core.Path.{_≡_, refl, sym, ap, _∙_, subst}
 use mathlib.Core.List.{List}
 use native.Mathlib.Omega.{arith}
 use native.Mathlib.Decide.{decLt}
-use native.Mathlib.Nat.{add-comm, add-zero, add-suc, add-assoc, mul-assoc, mul-suc, mul-comm, pow-succ', mod-one, mod-eq-of-lt, one-le-pow, add-mul-div-right, add-mul-mod-self-right, div-eq-of-lt}
+use native.Mathlib.Nat.{add-comm, add-zero, add-suc, add-assoc, mul-assoc, mul-comm, pow-succ', mod-one, mod-eq-of-lt, one-le-pow, add-mul-div-right, div-eq-of-lt}
 use borrow.Author.Tests.{leb-true, le-leb, lt-leb, lt-ltb, le-ltb}
 use lib.Dec.{leb}
 use lib.Arith.{mod-mul}
 use lib.IntN.{ℤ, pos, negsuc}
 use lib.ListN.{length, getD}
-use lib.Pow.{pow-pos, pow-mono, pow-add, high-ones}
-use Rattle.primitives.specs.Bytes.{Bytes}
+use Rattle.numbers.specs.Bytes.{Bytes}
+use Rattle.numbers.specs.Format.{bigEndian, complement, InBits, Unsigned}
+use Rattle.numbers.proofs.Integers.{big-endian-length, big-endian-low, bytes-are-bits, twice, complement-below}
 use Rattle.primitives.specs.Step.{ok, no}
 use Rattle.primitives.specs.Stands.{Stands}
-use Rattle.primitives.specs.Format.{bigEndian, complement, InBits, Unsigned, Integer}
 use Rattle.primitives.specs.Reading.{big, unsignedAt, signedBy, integerAt}
 use Rattle.primitives.specs.Statements.{UnsignedSound, UnsignedComplete, IntegerSound, IntegerComplete}
 use Rattle.primitives.proofs.Places.{nothing, one, joined, byte, after}
@@ -47,19 +47,6 @@ big-below (suc k) s at h = rw pow-succ' (omega (arith, big-below k s at h, h (at
 
 -- ---- a number as bytes
 
-pub big-endian-length : (n v : ℕ) → length (bigEndian n v) ≡ n
-unfolding bigEndian
-big-endian-length zero v = refl
-big-endian-length (suc k) v = ap suc (big-endian-length k v)
-
--- what is above the n lowest bytes does not show
-pub big-endian-low : (n m v : ℕ) → bigEndian n (v + m * 256 ^ n) ≡ bigEndian n v
-unfolding bigEndian
-big-endian-low zero m v = refl
-big-endian-low (suc k) m v =
-    let e : m * 256 ^ suc k ≡ m * 256 * 256 ^ k = rw (pow-succ' 256 k) (sym (mul-assoc m 256 (256 ^ k))) in
-    rw (e, big-endian-low k (m * 256) v, add-mul-div-right v (m * 256) (one-le-pow k 256 (omega arith)), add-mul-mod-self-right)
-
 first-digit : (k x b : ℕ) → x < 256 ^ k → b < 256 → (x + b * 256 ^ k) / 256 ^ k % 256 ≡ b
 first-digit k x b h l = rw (add-mul-div-right x b (one-le-pow k 256 (omega arith)), div-eq-of-lt h) (omega arith)
 
@@ -80,10 +67,6 @@ stands-big zero v x = sym (mod-one v)
 stands-big (suc k) {s} {p} v x =
     let h = mod-mul v {m = 256} {c = 256 ^ k} (omega arith) (one-le-pow k 256 (omega arith)) in
     big-first k s p ∙ rw (byte x, stands-big k v (after x), pow-succ' 256 k, h) (add-comm _ _)
-
-pub bytes-are-bits : (n : ℕ) → 256 ^ n ≡ 2 ^ (8 * n)
-bytes-are-bits zero = refl
-bytes-are-bits (suc k) = rw (pow-succ', mul-suc, pow-add) (omega (arith, bytes-are-bits k))
 
 -- ---- unsigned integers
 
@@ -114,10 +97,6 @@ unsigned-complete n s p q bs v x u =
 
 -- ---- signed integers
 
-pub twice : (w : ℕ) → 0 < w → 2 ^ w ≡ 2 * 2 ^ (w - 1)
-twice zero h = absurd (omega arith)
-twice (suc k) h = let e : suc k - 1 ≡ k = omega arith in rw e (pow-succ' 2 k)
-
 pub signed-low : (half v : ℕ) → v < half → signedBy half v ≡ pos v
 unfolding signedBy
 signed-low half v h = simp (lt-ltb v half h)
@@ -133,10 +112,6 @@ signed-either P half v low high =
       | yes h ↦ rw (signed-low half v h) (low h)
       | Dec.no h ↦ let l : half ≤ v = omega arith in rw (signed-high half v l) (high l)
     ]
-
-pub complement-below : (w : ℕ) (z : ℤ) → 0 < w → InBits w z → complement w z < 2 ^ w
-complement-below w (pos n) h b = omega (arith, twice w h)
-complement-below w (negsuc k) h b = omega (arith, pow-pos w)
 
 pub signed-of-complement : (w : ℕ) (z : ℤ) → 0 < w → InBits w z → signedBy (2 ^ (w - 1)) (complement w z) ≡ z
 signed-of-complement w (pos n) h b = signed-low (2 ^ (w - 1)) n b
@@ -171,22 +146,3 @@ integer-complete n s p q bs z h x i =
     let l : 0 < 8 * n = omega arith in
     let u : Unsigned n bs (complement (8 * n) z) = record { is = i .is; fits = rw bytes-are-bits (complement-below (8 * n) z l (i .fits)) } in
     rw (unsigned-complete n s p q bs (complement (8 * n) z) x u, signed-of-complement (8 * n) z l (i .fits))
-
--- the n lowest bytes of 64 bits
-pub complement-narrow : (n : ℕ) (z : ℤ) → n ≤ 8 → InBits (8 * n) z → bigEndian n (complement 64 z) ≡ bigEndian n (complement (8 * n) z)
-complement-narrow n (pos m) h b = refl
-complement-narrow n (negsuc k) h b =
-    let w = 8 * n in
-    let e : 64 ≡ 64 - w + w = omega arith in
-    let f : 2 ^ 64 - 2 ^ w ≡ (2 ^ (64 - w) - 1) * 2 ^ w = ap (λ (x : ℕ). 2 ^ x - 2 ^ w) e ∙ high-ones (64 - w) w in
-    let g : 2 ^ 64 - suc k ≡ 2 ^ w - suc k + (2 ^ (64 - w) - 1) * 256 ^ n =
-    rw bytes-are-bits (omega (arith, pow-mono {i = w - 1} {j = w} (omega arith), pow-mono {i = w} {j = 64} (omega arith))) in
-    ap (bigEndian n) g ∙ big-endian-low n (2 ^ (64 - w) - 1) (2 ^ w - suc k)
-
--- ---- as many bytes as the width says
-
-pub unsigned-length : {n : ℕ} {bs : List ℕ} {v : ℕ} → Unsigned n bs v → length bs ≡ n
-unsigned-length {n} {v = v} u = ap length (u .is) ∙ big-endian-length n v
-
-pub integer-length : {n : ℕ} {bs : List ℕ} {z : ℤ} → Integer n bs z → length bs ≡ n
-integer-length {n} {z = z} i = ap length (i .is) ∙ big-endian-length n (complement (8 * n) z)

@@ -13,15 +13,15 @@ use lib.Signed.{leZ}
 use mir.Syntax.{w32}
 use mir.Val.{SFits, toZ, ofZ}
 use mir.ValLaws.{toZ-ofZ}
+use Rattle.numbers.specs.declared.Varint.{Varint}
+use Rattle.numbers.proofs.Signs.{nonnegative, negative}
 use Rattle.primitives.specs.declared.Cursor.{Cursor}
 use Rattle.primitives.specs.declared.Fault.{Fault}
-use Rattle.primitives.specs.declared.Varint.{Varint}
 use Rattle.primitives.specs.declared.VarintRead.{VarintRead}
 use Rattle.primitives.specs.declared.LengthRead.{LengthRead}
 use Rattle.primitives.specs.Step.{ok, no}
 use Rattle.primitives.specs.Reading.{varintAt, lengthOf, lengthAt, spanOf, spanAt}
 use Rattle.primitives.specs.Answers.{numberOf, viewVarint, viewLength}
-use Rattle.primitives.proofs.Signs.{nonnegative, negative}
 
 -- ---- the number -1 is the one whose bits are all ones
 all-ones : (z : ℤ) → SFits w32 z → ofZ w32 z ≡ 4294967295 → z ≡ negsuc 0

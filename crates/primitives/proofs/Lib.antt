@@ -1,4 +1,3 @@
-pub mod AllBytes
 pub mod Codes
 pub mod Fields
 pub mod Integers
@@ -6,13 +5,10 @@ pub mod Lengths
 pub mod Mask
 pub mod Moves
 pub mod Numbers
-pub mod Pens
 pub mod Picks
 pub mod Places
 pub mod Refusing
 pub mod Shifted
-pub mod Shortest
-pub mod Signs
 pub mod Single
 pub mod Spans
 pub mod Starred
@@ -21,5 +17,4 @@ pub mod Turns
 pub mod Values
 pub mod Varints
 pub mod Windows
-pub mod Written
 pub mod Zigzag

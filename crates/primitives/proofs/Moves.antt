@@ -9,7 +9,7 @@ use borrow.Author.Tests.{leb-true, ltb-true}
 use lib.Dec.{leb, ltb}
 use lib.IntN.{ℤ, pos, negsuc}
 use lib.ListN.{length, getD}
-use Rattle.primitives.specs.Pick.{pick}
+use Rattle.numbers.specs.Pick.{pick}
 use Rattle.primitives.specs.Step.{Step, ok, mapStep}
 use Rattle.primitives.specs.Reading.{big, unsignedAt, signedBy, integerAt, byteAt, codeAt, full, limit, unzigzag, varintAt, lengthOf, lengthAt, Span, spanOf, spanAt}
 use Rattle.primitives.proofs.Steps.{ok-not-no, and-then-ok, map-ok, pick-ok}

@@ -1,25 +1,10 @@
--- Tests in a row, and steps that a test picks: by cases on the tests. Assumes nothing.
+-- Steps that a test picks: by cases on the test. Assumes nothing.
 use Prim.Native.Nat.{ℕ}
 use mathlib.Core.Path.{_≡_, refl, sym}
 use mathlib.Core.Bool.{Bool, true, false}
-use mathlib.Core.Logic.{_⊎_, inl, inr}
-use Rattle.primitives.specs.Pick.{pick}
+use Rattle.numbers.specs.Pick.{pick}
 use Rattle.primitives.specs.Step.{Step, ok, no, andThen}
 use Rattle.primitives.proofs.Steps.{ok-not-no}
-
--- ---- two tests of which both have to hold
-
-pub both-hold : (x y : Bool) → pick x y false ≡ true → (x ≡ true) × (y ≡ true)
-both-hold true y e = (refl, e)
-both-hold false y e = (e, cc)
-
-pub one-fails : (x y : Bool) → pick x y false ≡ false → (x ≡ false) ⊎ (y ≡ false)
-one-fails true y e = inr e
-one-fails false y e = inl refl
-
-pub second-fails : (x : Bool) → pick x false false ≡ false
-second-fails true = refl
-second-fails false = refl
 
 -- ---- which way a test went
 

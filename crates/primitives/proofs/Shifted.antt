@@ -10,7 +10,7 @@ use lib.Dec.{leb, ltb, eqb, isLe, isEq}
 use lib.IntN.{ℤ, pos, negsuc}
 use lib.ListN.{length, length-append}
 use lib.Seq.{getD-append-add}
-use Rattle.primitives.specs.Pick.{pick}
+use Rattle.numbers.specs.Pick.{pick}
 use Rattle.primitives.specs.Step.{Step, ok, no, andThen, mapStep, times}
 use Rattle.primitives.specs.Reading.{big, unsignedAt, integerAt, byteAt, codeAt, varintAt, lengthOf, lengthAt, spanOf, spanAt}
 use Rattle.primitives.specs.Shifted.{movedNullable, same, movedStep, Shifted}

@@ -1,12 +1,14 @@
 -- Each promise admits a single answer: it gives the answer itself, or what the answer says, from which the answer can be
 -- made again. Assumes nothing.
 use Prim.Native.Nat.{ℕ}
-use mathlib.Core.Path.{_≡_, refl, sym, ap, _∙_}
-use mathlib.Core.Bool.{Bool, true, false}
+use mathlib.Core.Path.{_≡_, refl, ap}
+use mathlib.Core.Bool.{Bool}
 use mathlib.Core.Option.{Option, none, some}
 use mathlib.Core.List.{List}
 use lib.Dec.{eqb}
-use lib.IntN.{ℤ}
+use Rattle.numbers.specs.Pick.{pick}
+use Rattle.numbers.specs.Single.{Single}
+use Rattle.numbers.proofs.Single.{single-value, single-view}
 use Rattle.primitives.specs.declared.Fault.{Fault}
 use Rattle.primitives.specs.declared.Fault.the-variants.{PastEnd, BeyondLimits, NegativeLength}
 use Rattle.primitives.specs.declared.Int8Read.{Int8Read}
@@ -19,38 +21,13 @@ use Rattle.primitives.specs.declared.VarintRead.{VarintRead}
 use Rattle.primitives.specs.declared.VarlongRead.{VarlongRead}
 use Rattle.primitives.specs.declared.LengthRead.{LengthRead}
 use Rattle.primitives.specs.declared.SpanRead.{SpanRead}
-use Rattle.primitives.specs.Pick.{pick}
-use Rattle.primitives.specs.Exactly.{Exactly}
-use Rattle.primitives.specs.Single.{Single}
 use Rattle.primitives.specs.Step.{Step, ok, no}
 use Rattle.primitives.specs.Reading.{Span}
 use Rattle.primitives.specs.Answers.{numberOf, viewInt8, viewInt16, viewInt32, viewInt64, viewUint32, viewUint64, viewVarint, viewVarlong, viewLength, viewSpan}
-use Rattle.primitives.specs.Promises.{NumberPromise, ToBeBytesPromise, UnsignedToBeBytesPromise, EncodePromise, ReadInt8Promise, ReadInt16Promise, ReadInt32Promise, ReadInt64Promise, ReadUint32Promise, ReadUint64Promise, ReadVarintPromise, ReadVarlongPromise, ReadLengthPromise, ReadSpanPromise, PutPromise}
-
-pub single-value : {A : Type 0} (x : A) → Single (λ r. r ≡ x)
-single-value x r r′ e e′ = e ∙ sym e′
-
-pub single-view : {R S : Type 0} (view : R → S) (back : S → R) → ((r : R) → back (view r) ≡ r) → (x : S) → Single (λ r. view r ≡ x)
-single-view view back again x r r′ e e′ = sym (again r) ∙ ap back (e ∙ sym e′) ∙ again r′
-
--- a test that is passed exactly where something holds
-pub single-exactly : (X : Type 0) → Single (λ (r : Bool). Exactly (r ≡ true) X)
-single-exactly X true true e e′ = refl
-single-exactly X true false e e′ = sym (e′ .1 (e .0 refl))
-single-exactly X false true e e′ = e .1 (e′ .0 refl)
-single-exactly X false false e e′ = refl
+use Rattle.primitives.specs.Promises.{NumberPromise, ReadInt8Promise, ReadInt16Promise, ReadInt32Promise, ReadInt64Promise, ReadUint32Promise, ReadUint64Promise, ReadVarintPromise, ReadVarlongPromise, ReadLengthPromise, ReadSpanPromise}
 
 pub single-number : (f : Fault) → Single (NumberPromise f)
 single-number f = single-value _
-
-pub single-to-be-bytes : (n : ℕ) (z : ℤ) → Single (ToBeBytesPromise n z)
-single-to-be-bytes n z = single-value _
-
-pub single-unsigned-to-be-bytes : (n v : ℕ) → Single (UnsignedToBeBytesPromise n v)
-single-unsigned-to-be-bytes n v = single-value _
-
-pub single-encode : (n : ℤ) → Single (EncodePromise n)
-single-encode n = single-value _
 
 -- ---- the answer of a reading, made from what it says
 
@@ -123,9 +100,3 @@ pub single-read-span : (nullable : Bool) (s : List ℕ) (at : ℕ) → Single (R
 single-read-span nullable s at =
     single-view viewSpan (back gotSpan SpanRead.Refused)
     (λ r. elim r [ SpanRead.Span x c ↦ refl | SpanRead.Null c ↦ refl | SpanRead.Refused f ↦ ap SpanRead.Refused (fault-again f) ]) _
-
-pub single-put : (bytes out : List ℕ) (at : ℕ) → Single (PutPromise bytes out at)
-single-put bytes out at o o′ e e′ =
-    let p = single-value _ (o .next) (o′ .next) (e .next) (e′ .next) in
-    let q = single-value _ (o .output) (o′ .output) (e .output) (e′ .output) in
-    λ i. record { next = p i; output = q i }

@@ -12,9 +12,9 @@ use lib.Dec.{leb}
 use lib.IntN.{ℤ, pos, negsuc}
 use lib.ListN.{length, take, drop, length-take, length-drop, take-append-drop}
 use lib.Seq.{drop-drop}
+use Rattle.numbers.specs.Format.{Varies, Nullable}
 use Rattle.primitives.specs.Step.{ok, andThen}
 use Rattle.primitives.specs.Stands.{Stands, Encoding}
-use Rattle.primitives.specs.Format.{Varies, Nullable}
 use Rattle.primitives.specs.Reading.{varintAt, lengthOf, lengthAt, Span, spanOf, spanAt, shown}
 use Rattle.primitives.specs.Statements.{endingAt, SpanSound, SpanComplete}
 use Rattle.primitives.proofs.Places.{shows, joined, first, second}

@@ -1,6 +1,6 @@
 -- Document 01's starred rows, computed through the definitions as they are written. Assumes nothing.
 use mathlib.Core.Path.{refl}
-use Rattle.primitives.specs.Format.{fewest, shortest}
+use Rattle.numbers.specs.Format.{fewest, shortest}
 use Rattle.primitives.specs.Reading.{byteAt, codeAt, unzigzag, varintAt}
 use Rattle.primitives.specs.Statements.{StarredVarints}
 

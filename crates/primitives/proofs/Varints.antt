@@ -1,42 +1,32 @@
 -- The laws of codes at each width: the full bytes and the last one's limit hold just what the width holds, and the zigzag
 -- turns codes and numbers into each other. Assumes nothing.
-use Prim.Native.Nat.{ℕ, zero, suc, _+_, _-_, _*_, _^_, _≤_, _<_}
-use mathlib.Core.Path.{_≡_, refl, sym, ap, _∙_, subst}
+use Prim.Native.Nat.{ℕ, _-_, _*_, _^_, _≤_, _<_}
+use mathlib.Core.Path.{_≡_, sym, ap, _∙_, subst}
 use mathlib.Core.Bool.{false}
 use mathlib.Core.List.{List, _++_}
 use native.Mathlib.Omega.{arith}
-use native.Mathlib.Nat.{pow-succ'}
 use lib.Pow.{pow-add, pow-mono, pow-pos}
 use lib.IntN.{ℤ}
 use lib.ListN.{length}
+use Rattle.numbers.specs.Format.{zigzag, groups, Varies}
+use Rattle.numbers.proofs.Shortest.{seven-bits}
+use Rattle.numbers.proofs.Zigzag.{zigzag-below, zigzag-in-bits}
 use Rattle.primitives.specs.Step.{ok, mapStep}
 use Rattle.primitives.specs.Stands.{Stands, Encoding}
-use Rattle.primitives.specs.Format.{zigzag, groups, Varies}
 use Rattle.primitives.specs.Reading.{codeAt, full, limit, unzigzag, varintAt}
 use Rattle.primitives.specs.Statements.{VarintSound, VarintComplete, VarintUnambiguous}
 use Rattle.primitives.proofs.Steps.{map-ok}
 use Rattle.primitives.proofs.Places.{in-front, whole, no-rest}
-use Rattle.primitives.proofs.Zigzag.{zigzag-back, zigzag-again, zigzag-below, zigzag-in-bits}
+use Rattle.primitives.proofs.Zigzag.{zigzag-back, zigzag-again}
 use Rattle.primitives.proofs.Codes.{Code, code-sound, code-complete}
 
 -- ---- the limits of a width
-
-seven-bits : (k : ℕ) → 128 ^ k ≡ 2 ^ (7 * k)
-seven-bits zero = refl
-seven-bits (suc k) =
-    pow-succ' 128 k
-    ∙ ap (λ (x : ℕ). 128 * x) (seven-bits k)
-    ∙ sym (pow-add 2 7 (7 * k))
-    ∙ ap (λ (x : ℕ). 2 ^ x) (omega arith)
 
 pub width-holds : (w : ℕ) → 128 ^ full w * limit w ≡ 2 ^ w
 width-holds w =
     ap (λ (x : ℕ). x * limit w) (seven-bits (full w))
     ∙ sym (pow-add 2 (7 * full w) (w - 7 * full w))
     ∙ ap (λ (x : ℕ). 2 ^ x) (omega arith)
-
-pub width-within : (w : ℕ) → 2 ^ w ≤ 128 ^ suc (full w)
-width-within w = rw (seven-bits (suc (full w))) (pow-mono (omega arith))
 
 pub limit-some : (w : ℕ) → 0 < limit w
 limit-some w = pow-pos (w - 7 * full w)

@@ -8,7 +8,7 @@ use native.Mathlib.Omega.{arith}
 use native.Mathlib.Decide.{decLt}
 use lib.ListN.{length, take, drop, length-append, length-take, take-append-drop, List·getD-eq-default, List·getD-append}
 use lib.Seq.{length-take-le, take-add, drop-at, drop-append-le, take-append-add, getD-take}
-use Rattle.primitives.specs.Bytes.{Bytes}
+use Rattle.numbers.specs.Bytes.{Bytes}
 use Rattle.primitives.specs.Stands.{Stands}
 use Rattle.primitives.specs.Reading.{big}
 

@@ -7,8 +7,7 @@ use native.Mathlib.Decide.{decLt}
 use borrow.Author.Tests.{eq-eqb, ne-eqb}
 use lib.IntN.{pos, negsuc}
 use Rattle.primitives.specs.Reading.{unzigzag}
-use Rattle.primitives.proofs.Integers.{twice}
-use Rattle.primitives.specs.Statements.{ZigzagBack, ZigzagAgain, ZigzagBelow, ZigzagInBits}
+use Rattle.primitives.specs.Statements.{ZigzagBack, ZigzagAgain}
 
 even-is : (c : ℕ) → c % 2 ≡ 0 → unzigzag c ≡ pos (c / 2)
 unfolding unzigzag
@@ -28,11 +27,3 @@ zigzag-again c =
       | yes h ↦ rw (even-is c (omega arith)) (omega arith)
       | no g ↦ rw (odd-is c (omega arith)) (omega arith)
     ]
-
-pub zigzag-below : ZigzagBelow
-zigzag-below w (pos n) h b = omega (arith, twice w h)
-zigzag-below w (negsuc k) h b = omega (arith, twice w h)
-
-pub zigzag-in-bits : ZigzagInBits
-zigzag-in-bits w (pos n) h l = omega (arith, twice w h)
-zigzag-in-bits w (negsuc k) h l = omega (arith, twice w h)

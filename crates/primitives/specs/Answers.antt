@@ -1,9 +1,7 @@
 -- What each answer says, case by case: the value with the place after it, or document 01's number.
-use Prim.Native.Nat.{ℕ, _-_}
+use Prim.Native.Nat.{ℕ}
 use mathlib.Core.Option.{Option, none, some}
-use mathlib.Core.List.{List, _++_}
 use lib.IntN.{ℤ}
-use lib.ListN.{length, replicate}
 use Rattle.primitives.specs.declared.Fault.{Fault}
 use Rattle.primitives.specs.declared.Fault.the-variants.{PastEnd, BeyondLimits, NegativeLength}
 use Rattle.primitives.specs.declared.Int8Read.{Int8Read}
@@ -17,7 +15,6 @@ use Rattle.primitives.specs.declared.VarlongRead.{VarlongRead}
 use Rattle.primitives.specs.declared.LengthRead.{LengthRead}
 use Rattle.primitives.specs.declared.SpanRead.{SpanRead}
 use Rattle.primitives.specs.declared.RawRead.{RawRead}
-use Rattle.primitives.specs.declared.Encoded.{Encoded}
 use Rattle.primitives.specs.Step.{Step, ok, no}
 use Rattle.primitives.specs.Reading.{Span}
 
@@ -72,7 +69,3 @@ viewSpan (SpanRead.Refused f) = no (numberOf f)
 abbrev pub viewRaw : RawRead → Step ℕ ℕ
 viewRaw (RawRead.Got v c) = ok v (c .at)
 viewRaw (RawRead.Refused f) = no (numberOf f)
-
--- at most ten bytes in ten, zeros after them, and how many they are
-abbrev pub inTen : List ℕ → Encoded
-inTen bs = record { bytes = bs ++ replicate (10 - length bs) 0; len = length bs }

@@ -1,11 +1,5 @@
-pub mod Pen
-pub mod Pick
-pub mod Bytes
-pub mod Single
-pub mod Exactly
 pub mod Step
 pub mod Stands
-pub mod Format
 pub mod Reading
 pub mod Shifted
 pub mod Answers

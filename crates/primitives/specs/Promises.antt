@@ -1,14 +1,10 @@
--- What each public function promises of its result and of a lent output, for every input. Lent bytes are lent to be read:
--- no function can change them, and where no output is lent the outcome is the result alone.
-use Prim.Native.Nat.{ℕ, _+_, _*_, _^_, _≤_, _<_, min}
+-- What each public function promises of its result, for every input. Lent bytes are lent to be read: no function can
+-- change them, so the outcome is the result alone.
+use Prim.Native.Nat.{ℕ, _*_, _^_, _≤_, _<_}
 use mathlib.Core.Path.{_≡_}
 use mathlib.Core.Bool.{Bool}
 use mathlib.Core.List.{List}
-use lib.IntN.{ℤ}
-use lib.ListN.{length}
-use lib.Seq.{sets}
 use Rattle.primitives.specs.declared.Fault.{Fault}
-use Rattle.primitives.specs.declared.Encoded.{Encoded}
 use Rattle.primitives.specs.declared.Int8Read.{Int8Read}
 use Rattle.primitives.specs.declared.Int16Read.{Int16Read}
 use Rattle.primitives.specs.declared.Int32Read.{Int32Read}
@@ -19,25 +15,12 @@ use Rattle.primitives.specs.declared.VarintRead.{VarintRead}
 use Rattle.primitives.specs.declared.VarlongRead.{VarlongRead}
 use Rattle.primitives.specs.declared.LengthRead.{LengthRead}
 use Rattle.primitives.specs.declared.SpanRead.{SpanRead}
-use Rattle.primitives.specs.Format.{bigEndian, complement, shortest}
 use Rattle.primitives.specs.Reading.{unsignedAt, integerAt, varintAt, lengthAt, spanAt}
-use Rattle.primitives.specs.Answers.{numberOf, inTen, viewInt8, viewInt16, viewInt32, viewInt64, viewUint32, viewUint64, viewVarint, viewVarlong, viewLength, viewSpan}
+use Rattle.primitives.specs.Answers.{numberOf, viewInt8, viewInt16, viewInt32, viewInt64, viewUint32, viewUint64, viewVarint, viewVarlong, viewLength, viewSpan}
 
 -- Fault::number
 abbrev pub NumberPromise : Fault → ℕ → Type 0
 NumberPromise f r = r ≡ numberOf f
-
--- to_be_bytes of an Int8, Int16, Int32, Int64, by the number of bytes
-abbrev pub ToBeBytesPromise : ℕ → ℤ → List ℕ → Type 0
-ToBeBytesPromise n z r = r ≡ bigEndian n (complement (8 * n) z)
-
--- to_be_bytes of a Uint32, Uint64, by the number of bytes
-abbrev pub UnsignedToBeBytesPromise : ℕ → ℕ → List ℕ → Type 0
-UnsignedToBeBytesPromise n v r = r ≡ bigEndian n v
-
--- Varint::encode, Varlong::encode
-abbrev pub EncodePromise : ℤ → Encoded → Type 0
-EncodePromise n r = r ≡ inTen (shortest n)
 
 -- Cursor::read_int8 and the others, on bytes s and a cursor at a place
 abbrev pub ReadInt8Promise : List ℕ → ℕ → Int8Read → Type 0
@@ -69,17 +52,6 @@ ReadLengthPromise nullable s at r = viewLength r ≡ lengthAt nullable s at
 
 abbrev pub ReadSpanPromise : Bool → List ℕ → ℕ → SpanRead → Type 0
 ReadSpanPromise nullable s at r = viewSpan r ≡ spanAt nullable s at
-
--- the result of put, with the output at exit
-pub record PutOutcome : Type 0 where
-  pub next : ℕ
-  pub output : List ℕ
-
--- put, of bytes into an output from a place on: each byte in its place where the output has it, all else as it was, and
--- the place after them, or the output's end
-pub record PutPromise (bytes out : List ℕ) (at : ℕ) (o : PutOutcome) : Type 0 where
-  pub next : o .next ≡ min (at + length bytes) (length out)
-  pub output : o .output ≡ sets out at bytes
 
 -- what the private functions may count on: a number of a width whose half is given, and a code that fits 64 bits
 pub record Halved (half v : ℕ) : Type 0 where

@@ -3,9 +3,9 @@ use Prim.Native.Nat.{ℕ}
 use mathlib.Core.Bool.{Bool, true, false}
 use mathlib.Core.List.{List, [], _∷_, map}
 use lib.IntN.{ℤ, pos, negsuc}
-use Rattle.primitives.specs.Pick.{pick}
+use Rattle.numbers.specs.Pick.{pick}
+use Rattle.numbers.specs.Format.{shortest}
 use Rattle.primitives.specs.Step.{Step, ok, no}
-use Rattle.primitives.specs.Format.{shortest}
 use Rattle.primitives.specs.Reading.{varintAt}
 
 -- the bytes, the widths at which they are read, what is read from their first place on, and whether the writer gives them

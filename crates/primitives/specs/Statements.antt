@@ -1,16 +1,16 @@
 -- The laws of the primitive layer, each in words and then as a statement. What proves each stands in proofs/ under the
 -- statement's name in small letters: `zigzag-back : ZigzagBack`.
-use Prim.Native.Nat.{ℕ, _+_, _-_, _^_, _<_, _≤_}
+use Prim.Native.Nat.{ℕ, _-_, _<_}
 use mathlib.Core.Path.{_≡_}
 use mathlib.Core.Bool.{Bool, false}
 use mathlib.Core.Option.{Option, none, some}
 use mathlib.Core.List.{List, [], _++_, map}
 use lib.IntN.{ℤ}
 use lib.ListN.{length}
-use Rattle.primitives.specs.Bytes.{Bytes}
+use Rattle.numbers.specs.Bytes.{Bytes}
+use Rattle.numbers.specs.Format.{Unsigned, Integer, zigzag, Varies, Nullable}
 use Rattle.primitives.specs.Step.{ok}
 use Rattle.primitives.specs.Stands.{Stands, Encoding}
-use Rattle.primitives.specs.Format.{InBits, Unsigned, Integer, zigzag, shortest, Varies, Nullable}
 use Rattle.primitives.specs.Reading.{unsignedAt, integerAt, unzigzag, varintAt, Span, spanAt, shown}
 use Rattle.primitives.specs.Shifted.{movedNullable, same, Shifted}
 use Rattle.primitives.specs.Starred.{StarredVarint, starredVarints, readings, expected, rewritten}
@@ -44,13 +44,6 @@ ZigzagBack = (n : ℤ) → unzigzag (zigzag n) ≡ n
 abbrev pub ZigzagAgain : Type 0
 ZigzagAgain = (c : ℕ) → zigzag (unzigzag c) ≡ c
 
--- The numbers of w bits are those whose code is below 2^w.
-abbrev pub ZigzagBelow : Type 0
-ZigzagBelow = (w : ℕ) (n : ℤ) → 0 < w → InBits w n → zigzag n < 2 ^ w
-
-abbrev pub ZigzagInBits : Type 0
-ZigzagInBits = (w : ℕ) (n : ℤ) → 0 < w → zigzag n < 2 ^ w → InBits w n
-
 -- ---- numbers of varying length, over the width
 
 -- What is read as a number of w bits is an encoding of it, and stands there.
@@ -69,18 +62,6 @@ abbrev pub VarintUnambiguous : Type 0
 VarintUnambiguous =
     (w : ℕ) (strict strict′ : Bool) (bs rest : List ℕ) (m n : ℤ) → 0 < w → Varies w strict bs m → Varies w strict′ (bs ++ rest) n
     → (rest ≡ []) × (m ≡ n)
-
--- The shortest form is an encoding, at each width of at most 64 bits that holds the number.
-abbrev pub ShortestEncodes : Type 0
-ShortestEncodes = (w : ℕ) (strict : Bool) (n : ℤ) → 0 < w → w ≤ 64 → InBits w n → Varies w strict (shortest n) n
-
--- No encoding of the same number is shorter, and none other is as short.
-abbrev pub ShortestLeast : Type 0
-ShortestLeast = (w : ℕ) (strict : Bool) (bs : List ℕ) (n : ℤ) → Varies w strict bs n → length (shortest n) ≤ length bs
-
-abbrev pub ShortestOnly : Type 0
-ShortestOnly =
-    (w : ℕ) (strict : Bool) (bs : List ℕ) (n : ℤ) → Varies w strict bs n → length bs ≡ length (shortest n) → bs ≡ shortest n
 
 -- ---- bytes that follow their length
 

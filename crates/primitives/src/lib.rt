@@ -1,41 +1,18 @@
-// The primitive types of the record batch: integers of fixed size, numbers of varying length, and bytes that follow
-// their length. Types and names follow src/protocol/primitives.rs of rskafka 0.6.0.
+// Reading the primitive types of the record batch: integers of fixed size, numbers of varying length, and bytes that
+// follow their length. Types and names follow src/protocol/primitives.rs of rskafka 0.6.0.
+use numbers::Int8;
+use numbers::Int16;
+use numbers::Int32;
+use numbers::Int64;
+use numbers::Uint32;
+use numbers::Uint64;
+use numbers::Varint;
+use numbers::Varlong;
 ghost use mathlib.Core.Path.{_≡_};
-ghost use Prim.Native.Nat.{_≤_, min};
-ghost use Rattle.primitives.specs.Format.{complement, bigEndian, zigzag, fewest};
+ghost use Prim.Native.Nat.{_≤_};
 ghost use Rattle.primitives.specs.Reading.{unsignedAt, signedBy, codeAt, unzigzag};
-ghost use Rattle.primitives.specs.Answers.{viewRaw, inTen};
-ghost use Rattle.primitives.specs.Promises.{NumberPromise, ToBeBytesPromise, UnsignedToBeBytesPromise, EncodePromise, ReadInt8Promise, ReadInt16Promise, ReadInt32Promise, ReadInt64Promise, ReadUint32Promise, ReadUint64Promise, ReadVarintPromise, ReadVarlongPromise, ReadLengthPromise, ReadSpanPromise, PutPromise, Halved, Holds};
-
-// An integer between -2^7 and 2^7 - 1.
-pub struct Int8(pub i8);
-
-// An integer between -2^15 and 2^15 - 1, of two bytes.
-pub struct Int16(pub i16);
-
-// An integer between -2^31 and 2^31 - 1, of four bytes.
-pub struct Int32(pub i32);
-
-// An integer between -2^63 and 2^63 - 1, of eight bytes.
-pub struct Int64(pub i64);
-
-// An integer between 0 and 2^32 - 1, of four bytes.
-pub struct Uint32(pub u32);
-
-// An integer between 0 and 2^64 - 1, of eight bytes.
-pub struct Uint64(pub u64);
-
-// An integer between -2^31 and 2^31 - 1, of one to five bytes.
-pub struct Varint(pub i32);
-
-// An integer between -2^63 and 2^63 - 1, of one to ten bytes.
-pub struct Varlong(pub i64);
-
-// The bytes of a number of varying length, and how many of the ten are in use. The others are 0.
-pub struct Encoded {
-    pub bytes: [u8; 10],
-    pub len: usize,
-}
+ghost use Rattle.primitives.specs.Answers.{viewRaw};
+ghost use Rattle.primitives.specs.Promises.{NumberPromise, ReadInt8Promise, ReadInt16Promise, ReadInt32Promise, ReadInt64Promise, ReadUint32Promise, ReadUint64Promise, ReadVarintPromise, ReadVarlongPromise, ReadLengthPromise, ReadSpanPromise, Halved, Holds};
 
 // A place in lent bytes, which are passed beside it. Fields are read up to the end of the bytes that are passed.
 pub struct Cursor {
@@ -127,89 +104,17 @@ impl Fault {
     }
 }
 
-impl Int8 {
-    pub fn to_be_bytes(self) -> [u8; 1]
-        ensures { λ r. ⌜ ToBeBytesPromise 1 (self .0) r ⌝ }
-    {
-        let n = self.0;
-        big_endian_1(twos_complement(n as i64))
-    }
-}
-
-impl Int16 {
-    pub fn to_be_bytes(self) -> [u8; 2]
-        ensures { λ r. ⌜ ToBeBytesPromise 2 (self .0) r ⌝ }
-    {
-        let n = self.0;
-        big_endian_2(twos_complement(n as i64))
-    }
-}
-
-impl Int32 {
-    pub fn to_be_bytes(self) -> [u8; 4]
-        ensures { λ r. ⌜ ToBeBytesPromise 4 (self .0) r ⌝ }
-    {
-        let n = self.0;
-        big_endian_4(twos_complement(n as i64))
-    }
-}
-
-impl Int64 {
-    pub fn to_be_bytes(self) -> [u8; 8]
-        ensures { λ r. ⌜ ToBeBytesPromise 8 (self .0) r ⌝ }
-    {
-        let n = self.0;
-        big_endian_8(twos_complement(n))
-    }
-}
-
-impl Uint32 {
-    pub fn to_be_bytes(self) -> [u8; 4]
-        ensures { λ r. ⌜ UnsignedToBeBytesPromise 4 (self .0) r ⌝ }
-    {
-        let v = self.0;
-        big_endian_4(v as u64)
-    }
-}
-
-impl Uint64 {
-    pub fn to_be_bytes(self) -> [u8; 8]
-        ensures { λ r. ⌜ UnsignedToBeBytesPromise 8 (self .0) r ⌝ }
-    {
-        let v = self.0;
-        big_endian_8(v)
-    }
-}
-
-impl Varint {
-    // At most five bytes, the fifth at most 15.
-    const FULL: usize = 4;
-
-    const LIMIT: u64 = 16;
-
-    pub fn encode(self) -> Encoded
-        ensures { λ r. ⌜ EncodePromise (self .0) r ⌝ }
-    {
-        let n = self.0;
-        fewest_bytes(encode_zigzag(n as i64))
-    }
-}
-
-impl Varlong {
-    // At most ten bytes, the tenth at most 1.
-    const FULL: usize = 9;
-
-    const LIMIT: u64 = 2;
-
-    pub fn encode(self) -> Encoded
-        ensures { λ r. ⌜ EncodePromise (self .0) r ⌝ }
-    {
-        let n = self.0;
-        fewest_bytes(encode_zigzag(n))
-    }
-}
-
 impl Cursor {
+    // A Varint: at most five bytes, the fifth at most 15.
+    const VARINT_FULL: usize = 4;
+
+    const VARINT_LIMIT: u64 = 16;
+
+    // A Varlong: at most ten bytes, the tenth at most 1.
+    const VARLONG_FULL: usize = 9;
+
+    const VARLONG_LIMIT: u64 = 2;
+
     pub fn read_int8(self, s: &[u8]) -> Int8Read
         ensures { λ r. ⌜ ReadInt8Promise (now (s .entry)) (self .at) r ⌝ }
     {
@@ -268,7 +173,7 @@ impl Cursor {
     pub fn read_varint(self, s: &[u8]) -> VarintRead
         ensures { λ r. ⌜ ReadVarintPromise (now (s .entry)) (self .at) r ⌝ }
     {
-        match self.read_code(s, Varint::FULL, Varint::LIMIT) {
+        match self.read_code(s, Cursor::VARINT_FULL, Cursor::VARINT_LIMIT) {
             RawRead::Got(c, next) => VarintRead::Got(Varint(decode_zigzag_32(c as u32)), next),
             RawRead::Refused(f) => VarintRead::Refused(f),
         }
@@ -278,7 +183,7 @@ impl Cursor {
     pub fn read_varlong(self, s: &[u8]) -> VarlongRead
         ensures { λ r. ⌜ ReadVarlongPromise (now (s .entry)) (self .at) r ⌝ }
     {
-        match self.read_code(s, Varlong::FULL, Varlong::LIMIT) {
+        match self.read_code(s, Cursor::VARLONG_FULL, Cursor::VARLONG_LIMIT) {
             RawRead::Got(c, next) => VarlongRead::Got(Varlong(decode_zigzag_64(c)), next),
             RawRead::Refused(f) => VarlongRead::Refused(f),
         }
@@ -399,65 +304,6 @@ fn signed(v: u64, half: u64) -> i64
     }
 }
 
-fn twos_complement(n: i64) -> u64
-    ensures { λ r. ⌜ r ≡ complement 64 n ⌝ }
-{
-    if 0 <= n {
-        n as u64
-    } else {
-        0xFFFF_FFFF_FFFF_FFFF - ((-1 - n) as u64)
-    }
-}
-
-fn big_endian_1(v: u64) -> [u8; 1]
-    ensures { λ r. ⌜ r ≡ bigEndian 1 v ⌝ }
-{
-    [(v % 256) as u8]
-}
-
-fn big_endian_2(v: u64) -> [u8; 2]
-    ensures { λ r. ⌜ r ≡ bigEndian 2 v ⌝ }
-{
-    [(v / 0x100 % 256) as u8, (v % 256) as u8]
-}
-
-fn big_endian_4(v: u64) -> [u8; 4]
-    ensures { λ r. ⌜ r ≡ bigEndian 4 v ⌝ }
-{
-    [
-        (v / 0x100_0000 % 256) as u8,
-        (v / 0x1_0000 % 256) as u8,
-        (v / 0x100 % 256) as u8,
-        (v % 256) as u8,
-    ]
-}
-
-fn big_endian_8(v: u64) -> [u8; 8]
-    ensures { λ r. ⌜ r ≡ bigEndian 8 v ⌝ }
-{
-    [
-        (v / 0x100_0000_0000_0000 % 256) as u8,
-        (v / 0x1_0000_0000_0000 % 256) as u8,
-        (v / 0x100_0000_0000 % 256) as u8,
-        (v / 0x1_0000_0000 % 256) as u8,
-        (v / 0x100_0000 % 256) as u8,
-        (v / 0x1_0000 % 256) as u8,
-        (v / 0x100 % 256) as u8,
-        (v % 256) as u8,
-    ]
-}
-
-fn encode_zigzag(n: i64) -> u64
-    ensures { λ r. ⌜ r ≡ zigzag n ⌝ }
-{
-    let v = twos_complement(n);
-    if v < 0x8000_0000_0000_0000 {
-        2 * v
-    } else {
-        2 * (0xFFFF_FFFF_FFFF_FFFF - v) + 1
-    }
-}
-
 // The sign mask is 0 minus the lowest bit, wrapping at the number's width.
 fn decode_zigzag_32(c: u32) -> i32
     ensures { λ r. ⌜ r ≡ unzigzag c ⌝ }
@@ -471,43 +317,4 @@ fn decode_zigzag_64(c: u64) -> i64
 {
     let mask = std::num::wrapping_sub_u64(0, c % 2);
     signed((c / 2) ^ mask, 0x8000_0000_0000_0000)
-}
-
-// Both widths: seven bits a byte, lowest first, the top bit set on all but the last.
-fn fewest_bytes(c: u64) -> Encoded
-    ensures { λ r. ⌜ r ≡ inTen (fewest 9 c) ⌝ }
-{
-    let mut bytes = [0u8; 10];
-    let mut n: usize = 0;
-    let mut x = c;
-    while 128 <= x {
-        bytes[n] = (128 + x % 128) as u8;
-        x = x / 128;
-        n += 1;
-    }
-    bytes[n] = x as u8;
-    Encoded { bytes, len: n + 1 }
-}
-
-// Writes bytes from a place of the output on, as far as it goes. Gives the place after them, or the output's end.
-pub fn put(bytes: &[u8], output: &mut [u8], at: usize) -> usize
-    ensures { λ r. ⌜ PutPromise (now (bytes .entry)) (now (output .entry)) at (record { next = r; output = now (output .exit) }) ⌝ }
-{
-    let room = output.len();
-    if room <= at {
-        return room;
-    }
-    let n = lesser(bytes.len(), room - at);
-    let mut i: usize = 0;
-    while i < n {
-        output[at + i] = bytes[i];
-        i += 1;
-    }
-    at + n
-}
-
-fn lesser(a: usize, b: usize) -> usize
-    ensures { λ r. ⌜ r ≡ min a b ⌝ }
-{
-    if a < b { a } else { b }
 }

@@ -4,10 +4,10 @@ use Prim.Native.Nat.{ℕ}
 use mathlib.Core.Path.{_≡_, refl}
 use mathlib.Core.List.{List}
 use lib.Dec.{eqb}
-use Rattle.primitives.specs.Pick.{pick}
-use Rattle.primitives.specs.Single.{Single}
+use Rattle.numbers.specs.Pick.{pick}
+use Rattle.numbers.specs.Single.{Single}
+use Rattle.numbers.proofs.Single.{single-value, single-view}
 use Rattle.primitives.specs.Step.{Step, ok, no}
-use Rattle.primitives.proofs.Single.{single-value, single-view}
 use Rattle.records.specs.Rows.{Tables}
 use Rattle.records.proofs.Single.{refusal, refusal-again}
 use Rattle.reading.specs.declared.RecordsCheck.{RecordsCheck}

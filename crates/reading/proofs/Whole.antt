@@ -8,9 +8,9 @@ use native.Mathlib.Omega.{arith}
 use borrow.Author.Tests.{leb-true, not-true, not-false}
 use lib.Dec.{leb}
 use lib.ListN.{length}
+use Rattle.numbers.specs.Pick.{pick}
+use Rattle.numbers.proofs.Picks.{both-hold}
 use Rattle.primitives.specs.declared.Cursor.{Cursor}
-use Rattle.primitives.specs.Pick.{pick}
-use Rattle.primitives.proofs.Picks.{both-hold}
 use Rattle.primitives.specs.Step.{ok, no, mapStep}
 use Rattle.primitives.proofs.Steps.{ok-not-no, map-ok, map-no, times-count}
 use Rattle.records.specs.declared.RecordFault.{RecordFault}

@@ -3,7 +3,7 @@
 use Prim.Native.Nat.{ℕ}
 use mathlib.Core.Path.{_≡_}
 use mathlib.Core.List.{List}
-use Rattle.primitives.specs.Pick.{pick}
+use Rattle.numbers.specs.Pick.{pick}
 use Rattle.primitives.specs.Step.{Step, ok, no, mapStep}
 use Rattle.records.specs.Judgement.{RecordSpans, recordsAt}
 use Rattle.records.specs.Rows.{Tables, roomy, withRows}

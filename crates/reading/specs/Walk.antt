@@ -5,7 +5,7 @@ use mathlib.Core.List.{List, [], _∷_, _++_}
 use lib.Dec.{leb}
 use lib.IntN.{ℤ}
 use lib.ListN.{length, take, drop}
-use Rattle.primitives.specs.Pick.{pick}
+use Rattle.numbers.specs.Pick.{pick}
 use Rattle.primitives.specs.Step.{Step, ok, no}
 use Rattle.records.specs.Judgement.{HeaderSpans, RecordSpans}
 use Rattle.records.specs.Rows.{headerRow, recordRow, headersIn, Tables, tables}

@@ -15,7 +15,7 @@ ghost use mathlib.Core.Bool.{false};
 ghost use mathlib.Core.List.{[], _∷_, _++_};
 ghost use lib.Dec.{leb};
 ghost use lib.IntN.{pos};
-ghost use Rattle.primitives.specs.Pick.{pick};
+ghost use Rattle.numbers.specs.Pick.{pick};
 ghost use Rattle.primitives.specs.Step.{mapStep, times};
 ghost use Rattle.records.specs.Judgement.{headerAt, fieldsAt, recordAt, runAt};
 ghost use Rattle.records.specs.Rows.{tables};

@@ -6,11 +6,11 @@ use mathlib.Core.Bool.{Bool, true}
 use mathlib.Core.Option.{Option, none, some}
 use mathlib.Core.List.{List, [], _∷_, _++_, map}
 use lib.ListN.{drop}
-use Rattle.primitives.specs.Bytes.{Bytes}
-use Rattle.primitives.specs.Format.{Nullable}
+use Rattle.numbers.specs.Bytes.{Bytes}
+use Rattle.numbers.specs.Format.{Nullable}
+use Rattle.numbers.proofs.AllBytes.{no-bytes, joined-bytes, left-bytes, varies-bytes, integer-bytes, sized-bytes}
 use Rattle.primitives.specs.Reading.{Span, shown}
 use Rattle.primitives.proofs.Windows.{window-bytes}
-use Rattle.primitives.proofs.AllBytes.{no-bytes, joined-bytes, left-bytes, varies-bytes, integer-bytes, sized-bytes}
 use Rattle.records.specs.Format.{Header, Record, Run, HeaderBytes, Fields, RecordBytes, RecordsBytes}
 use Rattle.records.specs.Judgement.{HeaderSpans, RecordSpans, bytesOf}
 use Rattle.records.specs.Placed.{shownHeader, shownRecords}

@@ -10,9 +10,9 @@ use native.Mathlib.Nat.{add-zero}
 use borrow.Author.Tests.{le-ltb, eq-eqb}
 use lib.IntN.{pos}
 use lib.ListN.{length}
+use Rattle.numbers.specs.Format.{Varies, Sized, Nullable}
 use Rattle.primitives.specs.Step.{Step, ok, times}
 use Rattle.primitives.specs.Stands.{Stands}
-use Rattle.primitives.specs.Format.{Varies, Sized, Nullable}
 use Rattle.primitives.specs.Reading.{lengthAt, spanAt}
 use Rattle.primitives.proofs.Steps.{ok-not-no}
 use Rattle.primitives.proofs.Places.{first, second}

@@ -8,8 +8,8 @@ use mathlib.Core.List.{List, [], _∷_}
 use native.Mathlib.Omega.{arith}
 use lib.IntN.{pos, negsuc}
 use lib.ListN.{length, length-append}
-use Rattle.primitives.specs.Format.{bigEndian, Integer, shortest, Sized, Nullable}
-use Rattle.primitives.proofs.Shortest.{shortest-encodes}
+use Rattle.numbers.specs.Format.{bigEndian, Integer, shortest, Sized, Nullable}
+use Rattle.numbers.proofs.Shortest.{shortest-encodes}
 use Rattle.utf8.specs.Grammar.{Octets}
 use Rattle.records.specs.Format.{Header, Record, Run, HeaderBytes, Unused, Fields}
 use Rattle.records.specs.Written.{writtenBytes, writtenNullable, writtenHeader, writtenHeaders, writtenFields, writtenRecords}

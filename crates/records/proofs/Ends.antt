@@ -6,7 +6,7 @@ use mathlib.Core.List.{List}
 use borrow.Author.Tests.{eqb-true}
 use lib.Dec.{ltb, eqb}
 use lib.ListN.{length}
-use Rattle.primitives.specs.Pick.{pick}
+use Rattle.numbers.specs.Pick.{pick}
 use Rattle.primitives.specs.Step.{ok, no}
 use Rattle.primitives.proofs.Steps.{ok-not-no, and-then-ok, pick-ok}
 use Rattle.records.specs.Judgement.{RecordSpans, runAt, recordsAt}

@@ -11,12 +11,13 @@ use lib.ListN.{length, take, drop}
 use mir.Syntax.{w32, w64}
 use mir.Val.{SFits, toZ, ofZ}
 use mir.ValLaws.{toZ-ofZ}
+use Rattle.numbers.specs.declared.Int8.{Int8}
+use Rattle.numbers.specs.declared.Varint.{Varint}
+use Rattle.numbers.specs.declared.Varlong.{Varlong}
 use Rattle.primitives.specs.declared.Cursor.{Cursor}
 use Rattle.primitives.specs.declared.Fault.{Fault}
-use Rattle.primitives.specs.declared.Int8.{Int8}
-use Rattle.primitives.specs.declared.Varint.{Varint}
-use Rattle.primitives.specs.declared.Varlong.{Varlong}
 use Rattle.primitives.specs.declared.Span as Spans
+use Rattle.numbers.proofs.Signs.{widen-back}
 use Rattle.primitives.specs.declared.Int8Read.{Int8Read}
 use Rattle.primitives.specs.declared.VarintRead.{VarintRead}
 use Rattle.primitives.specs.declared.VarlongRead.{VarlongRead}
@@ -26,7 +27,6 @@ use Rattle.primitives.specs.Step.{ok, no, mapStep}
 use Rattle.primitives.specs.Reading.{integerAt, varintAt, lengthAt, Span, spanAt}
 use Rattle.primitives.specs.Answers.{numberOf, viewInt8, viewVarint, viewVarlong, viewLength, viewSpan}
 use Rattle.primitives.proofs.Moves.{span-ends}
-use Rattle.primitives.proofs.Signs.{widen-back}
 use Rattle.primitives.proofs.Steps.{map-ok, map-no}
 use Rattle.utf8.specs.Judgement.{isUtf8}
 use Rattle.records.proofs.Presence.{bytes-of}

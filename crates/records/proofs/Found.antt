@@ -10,10 +10,10 @@ use borrow.Author.Tests.{eqb-true}
 use lib.Dec.{eqb}
 use lib.IntN.{ℤ, pos, negsuc}
 use lib.ListN.{length, take}
-use Rattle.primitives.specs.Bytes.{Bytes}
+use Rattle.numbers.specs.Bytes.{Bytes}
+use Rattle.numbers.specs.Format.{Integer, Varies, Sized, Nullable}
 use Rattle.primitives.specs.Step.{Step, ok, times}
 use Rattle.primitives.specs.Stands.{Stands, Encoding}
-use Rattle.primitives.specs.Format.{Integer, Varies, Sized, Nullable}
 use Rattle.primitives.specs.Reading.{integerAt, varintAt, lengthOf, lengthAt, Span, spanAt, shown}
 use Rattle.primitives.specs.Statements.{endingAt}
 use Rattle.primitives.proofs.Steps.{ok-not-no, and-then-ok, map-ok, pick-ok}

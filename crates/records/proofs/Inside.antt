@@ -7,8 +7,8 @@ use mathlib.Core.Option.{Option, none, some}
 use mathlib.Core.List.{List}
 use native.Mathlib.Omega.{arith}
 use lib.ListN.{length}
+use Rattle.numbers.specs.Format.{InBits, Sized, Nullable}
 use Rattle.primitives.specs.Stands.{Stands}
-use Rattle.primitives.specs.Format.{InBits, Sized, Nullable}
 use Rattle.primitives.specs.Reading.{Span}
 use Rattle.primitives.proofs.Places.{first, second}
 use Rattle.utf8.specs.Grammar.{Octets}

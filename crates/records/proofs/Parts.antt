@@ -6,8 +6,8 @@ use mathlib.Core.Bool.{Bool}
 use mathlib.Core.List.{List}
 use native.Mathlib.Omega.{arith}
 use lib.ListN.{length, length-append}
+use Rattle.numbers.specs.Format.{Sized}
 use Rattle.primitives.specs.Stands.{Stands}
-use Rattle.primitives.specs.Format.{Sized}
 use Rattle.primitives.proofs.Places.{first, second}
 use Rattle.records.specs.Format.{Header, Record, HeaderBytes, Fields}
 use Rattle.records.specs.Placed.{keyPlace, valuePlace, headersPlace}

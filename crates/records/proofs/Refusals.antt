@@ -9,7 +9,7 @@ use native.Mathlib.Omega.{arith}
 use lib.Dec.{leb, ltb, eqb}
 use lib.IntN.{ℤ, pos, negsuc}
 use lib.ListN.{length, take}
-use Rattle.primitives.specs.Pick.{pick}
+use Rattle.numbers.specs.Pick.{pick}
 use Rattle.primitives.specs.Step.{Step, ok, no, andThen, mapStep, times}
 use Rattle.primitives.specs.Reading.{unsignedAt, integerAt, byteAt, codeAt, full, limit, varintAt, lengthOf, lengthAt, spanOf, spanAt}
 use Rattle.primitives.proofs.Refusing.{RefusedBy, refused-by, and-then-refused, map-refused, pick-refused, times-refused}

@@ -9,9 +9,9 @@ use mathlib.Core.List.{List, _++_}
 use native.Mathlib.Omega.{arith}
 use lib.IntN.{ℤ, pos}
 use lib.ListN.{length, length-append}
-use Rattle.primitives.specs.Format.{shortest, Varies, Sized, Nullable}
-use Rattle.primitives.proofs.Integers.{integer-length}
-use Rattle.primitives.proofs.Shortest.{shortest-within, shortest-least, shortest-only}
+use Rattle.numbers.specs.Format.{shortest, Varies, Sized, Nullable}
+use Rattle.numbers.proofs.Integers.{integer-length}
+use Rattle.numbers.proofs.Shortest.{shortest-within, shortest-least, shortest-only}
 use Rattle.records.specs.Format.{Header, Record, Run, HeaderBytes, Fields}
 use Rattle.records.specs.Written.{writtenBytes, writtenNullable, writtenHeader, writtenHeaders, writtenFields, writtenRecord, writtenRecords}
 use Rattle.records.specs.Statements.{RecordShortest, RunShortest, RecordTight}

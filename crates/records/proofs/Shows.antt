@@ -6,8 +6,8 @@ use mathlib.Core.Bool.{Bool, true}
 use mathlib.Core.Option.{Option, none, some}
 use mathlib.Core.List.{List, map}
 use lib.ListN.{length}
+use Rattle.numbers.specs.Format.{Sized, Nullable}
 use Rattle.primitives.specs.Stands.{Stands}
-use Rattle.primitives.specs.Format.{Sized, Nullable}
 use Rattle.primitives.specs.Reading.{shown}
 use Rattle.primitives.proofs.Places.{shows, first, second}
 use Rattle.records.specs.Format.{Header, Record, Run, HeaderBytes, Fields, RecordBytes, RecordsBytes}

@@ -6,10 +6,11 @@ use lib.Dec.{eqb}
 use lib.IntN.{ℤ, pos}
 use lib.ListN.{getD}
 use Rattle.primitives.specs.declared.Fault.the-variants.{PastEnd, BeyondLimits, NegativeLength}
-use Rattle.primitives.specs.Pick.{pick}
-use Rattle.primitives.specs.Single.{Single}
+use Rattle.numbers.specs.Pick.{pick}
+use Rattle.numbers.specs.Single.{Single}
+use Rattle.numbers.proofs.Single.{single-value, single-view}
 use Rattle.primitives.specs.Step.{Step, ok, no}
-use Rattle.primitives.proofs.Single.{single-value, single-view, fault-again, back}
+use Rattle.primitives.proofs.Single.{fault-again, back}
 use Rattle.records.specs.declared.RecordFault.{RecordFault}
 use Rattle.records.specs.declared.RecordFault.the-variants.{Field, KeyNotUtf8, BytesLeft}
 use Rattle.records.specs.declared.Place.{Place}

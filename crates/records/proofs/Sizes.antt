@@ -8,9 +8,9 @@ use mathlib.Core.List.{List}
 use native.Mathlib.Omega.{arith}
 use lib.IntN.{ℤ}
 use lib.ListN.{length, length-append}
-use Rattle.primitives.specs.Format.{zigzag, Varies, Sized, Nullable}
-use Rattle.primitives.proofs.Shortest.{groups-length}
-use Rattle.primitives.proofs.Integers.{integer-length}
+use Rattle.numbers.specs.Format.{zigzag, Varies, Sized, Nullable}
+use Rattle.numbers.proofs.Shortest.{groups-length}
+use Rattle.numbers.proofs.Integers.{integer-length}
 use Rattle.records.specs.Format.{Record, Run, Fields, RecordsBytes}
 use Rattle.records.specs.Statements.{sizes, total, SizesAddUp, HeaderLeast, RecordLeast}
 use Rattle.records.proofs.Sound.{records-sound}

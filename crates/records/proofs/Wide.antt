@@ -10,8 +10,8 @@ use borrow.Author.Tests.{leb-true}
 use lib.Dec.{leb}
 use lib.IntN.{ℤ}
 use lib.ListN.{length, length-append, length-map}
+use Rattle.numbers.proofs.Picks.{both-hold}
 use Rattle.primitives.specs.Reading.{Span}
-use Rattle.primitives.proofs.Picks.{both-hold}
 use Rattle.records.specs.Judgement.{HeaderSpans, RecordSpans}
 use Rattle.records.specs.Rows.{spanRow, headerRow, recordRow, headersIn, recordRows, headerRows, Tables, roomy}
 

@@ -6,7 +6,7 @@ use mathlib.Core.Bool.{true}
 use mathlib.Core.Option.{Option, none, some}
 use mathlib.Core.List.{List, [], _∷_, _++_}
 use lib.IntN.{ℤ, pos}
-use Rattle.primitives.specs.Format.{bigEndian, complement, Integer, Sized, Nullable}
+use Rattle.numbers.specs.Format.{bigEndian, complement, Integer, Sized, Nullable}
 use Rattle.records.specs.Format.{Header, Record, Run, HeaderBytes, Fields}
 use Rattle.records.specs.Written.{writtenBytes, writtenNullable, writtenHeader, writtenHeaders, writtenFields, writtenRecord, writtenRecords}
 use Rattle.records.specs.Statements.{RecordWritten, RunWritten}

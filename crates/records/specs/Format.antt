@@ -7,7 +7,7 @@ use mathlib.Core.Option.{Option}
 use mathlib.Core.List.{List, [], _∷_, _++_}
 use lib.IntN.{ℤ, pos}
 use lib.ListN.{length}
-use Rattle.primitives.specs.Format.{Integer, Varies, Sized, Nullable}
+use Rattle.numbers.specs.Format.{Integer, Varies, Sized, Nullable}
 use Rattle.utf8.specs.Grammar.{Octets}
 
 -- ---- what a record says

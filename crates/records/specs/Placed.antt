@@ -5,7 +5,7 @@ use mathlib.Core.Bool.{Bool, true}
 use mathlib.Core.Option.{Option, none, some}
 use mathlib.Core.List.{List, [], _∷_, map}
 use lib.ListN.{length}
-use Rattle.primitives.specs.Format.{Sized, Nullable}
+use Rattle.numbers.specs.Format.{Sized, Nullable}
 use Rattle.primitives.specs.Reading.{Span, shown}
 use Rattle.records.specs.Format.{Header, Record, Run, HeaderBytes, Fields, RecordBytes, RecordsBytes}
 use Rattle.records.specs.Judgement.{HeaderSpans, RecordSpans, bytesOf}

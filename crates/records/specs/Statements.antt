@@ -6,8 +6,8 @@ use mathlib.Core.Bool.{Bool, true, false}
 use mathlib.Core.List.{List, [], _∷_, _++_, map}
 use lib.IntN.{pos}
 use lib.ListN.{length, take}
-use Rattle.primitives.specs.Bytes.{Bytes}
-use Rattle.primitives.specs.Format.{InBits}
+use Rattle.numbers.specs.Bytes.{Bytes}
+use Rattle.numbers.specs.Format.{InBits}
 use Rattle.primitives.specs.Step.{ok, no, times}
 use Rattle.primitives.specs.Stands.{Stands, Encoding}
 use Rattle.primitives.specs.Shifted.{movedSpan, movedNullable, movedStep}

@@ -4,7 +4,7 @@ use mathlib.Core.Option.{Option, none, some}
 use mathlib.Core.List.{List, [], _∷_, _++_}
 use lib.IntN.{pos, negsuc}
 use lib.ListN.{length}
-use Rattle.primitives.specs.Format.{shortest}
+use Rattle.numbers.specs.Format.{shortest}
 use Rattle.records.specs.Format.{Header, Record}
 
 -- bytes after their length, or the length -1 for null

@@ -7,9 +7,9 @@ use native.Mathlib.Omega.{arith}
 use lib.IntN.{pos}
 use lib.ListN.{length, drop, length-append, length-drop, length-map}
 use lib.Seq.{length-take-le}
-use Rattle.primitives.specs.Format.{zigzag, shortest}
+use Rattle.numbers.specs.Format.{zigzag, shortest}
+use Rattle.numbers.proofs.Shortest.{fewest-groups, groups-length}
 use Rattle.primitives.specs.Reading.{Span, shown}
-use Rattle.primitives.proofs.Shortest.{fewest-groups, groups-length}
 use Rattle.records.specs.Judgement.{bytesOf}
 use Rattle.records.specs.Placed.{shownHeader, shownRecord, shownRecords}
 use Rattle.records.specs.Statements.{Each}

@@ -7,7 +7,7 @@ use mathlib.Core.Option.{Option, none, some}
 use mathlib.Core.List.{List}
 use native.Mathlib.Omega.{arith}
 use lib.ListN.{length, length-append}
-use Rattle.primitives.specs.Format.{Nullable}
+use Rattle.numbers.specs.Format.{Nullable}
 use Rattle.records.specs.Format.{Header, Run, HeaderBytes}
 use Rattle.records.specs.Written.{writtenBytes, writtenNullable, writtenHeaders, writtenFields}
 use Rattle.records.specs.Placed.{placedNullable, placedHeader, placedRun}

@@ -1,8 +1,8 @@
 -- Each promise admits a single answer: it gives the answer itself. Assumes nothing.
 use Prim.Native.Nat.{ℕ}
 use lib.IntN.{ℤ}
-use Rattle.primitives.specs.Single.{Single}
-use Rattle.primitives.proofs.Single.{single-value}
+use Rattle.numbers.specs.Single.{Single}
+use Rattle.numbers.proofs.Single.{single-value}
 use Rattle.sizes.specs.Promises.{NumberSizePromise, SpanSizePromise, PlaceSizePromise, CappedPromise}
 
 pub single-number-size : (n : ℤ) → Single (NumberSizePromise n)

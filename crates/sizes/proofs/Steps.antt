@@ -10,10 +10,10 @@ use lib.Signed.{leZ}
 use mir.Syntax.{w64}
 use mir.Val.{SFits, toZ, ofZ}
 use mir.ValLaws.{toZ-ofZ, toZ-pos}
-use Rattle.primitives.specs.declared.Encoded.{Encoded}
-use Rattle.primitives.specs.Format.{shortest}
-use Rattle.primitives.specs.Answers.{inTen}
-use Rattle.primitives.proofs.Signs.{nonnegative, negative}
+use Rattle.numbers.specs.declared.Encoded.{Encoded}
+use Rattle.numbers.specs.Format.{shortest}
+use Rattle.numbers.specs.Answers.{inTen}
+use Rattle.numbers.proofs.Signs.{nonnegative, negative}
 use Rattle.sizes.specs.Promises.{NumberSizePromise}
 use Rattle.sizes.specs.Sizes.{spanSize, placeSize, cap}
 use Rattle.sizes.proofs.Lengths.{number-small}

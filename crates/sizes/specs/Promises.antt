@@ -3,7 +3,7 @@ use Prim.Native.Nat.{ℕ, _≤_}
 use mathlib.Core.Path.{_≡_}
 use lib.IntN.{ℤ}
 use lib.ListN.{length}
-use Rattle.primitives.specs.Format.{shortest}
+use Rattle.numbers.specs.Format.{shortest}
 use Rattle.sizes.specs.Sizes.{spanSize, placeSize, capped}
 
 -- number_size: the shortest bytes of a number, of which there are at most ten

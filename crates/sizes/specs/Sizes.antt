@@ -4,7 +4,7 @@ use mathlib.Core.Option.{Option, none, some}
 use mathlib.Core.List.{List, [], _∷_}
 use lib.IntN.{ℤ, pos, negsuc}
 use lib.ListN.{length}
-use Rattle.primitives.specs.Format.{shortest}
+use Rattle.numbers.specs.Format.{shortest}
 use Rattle.primitives.specs.Reading.{Span}
 use Rattle.records.specs.Judgement.{HeaderSpans, RecordSpans}
 

@@ -7,7 +7,7 @@ use mathlib.Core.Option.{Option}
 use mathlib.Core.List.{List, map}
 use lib.IntN.{ℤ}
 use lib.ListN.{length}
-use Rattle.primitives.specs.Format.{shortest}
+use Rattle.numbers.specs.Format.{shortest}
 use Rattle.primitives.specs.Reading.{Span, shown}
 use Rattle.records.specs.Format.{Record, Fields}
 use Rattle.records.specs.Judgement.{HeaderSpans, RecordSpans}

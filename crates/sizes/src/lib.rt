@@ -1,6 +1,6 @@
 // How many bytes things take when they are written: a number, bytes after their length, a key or a value. Sizes of bytes
 // stop at a limit that no record reaches, so that sums of them stay small.
-use primitives::Varlong;
+use numbers::Varlong;
 ghost use Rattle.sizes.specs.Promises.{NumberSizePromise, SpanSizePromise, PlaceSizePromise, CappedPromise};
 
 // A size from here on is held by no Varint.

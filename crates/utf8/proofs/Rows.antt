@@ -8,7 +8,7 @@ use mathlib.Core.List.{List, [], _∷_}
 use native.Mathlib.Omega.{arith}
 use borrow.Author.Tests.{le-leb, lt-leb}
 use lib.Dec.{leb, ltb, T, ltb→lt}
-use Rattle.primitives.specs.Pick.{pick}
+use Rattle.numbers.specs.Pick.{pick}
 use Rattle.utf8.specs.Grammar.{Within}
 use Rattle.utf8.specs.Judgement.{Range, holds, from, tail, after}
 use Rattle.utf8.proofs.Bounds.{upTo}

@@ -7,7 +7,7 @@ use mathlib.Core.Option.{Option, none, some}
 use mathlib.Core.List.{List, [], _∷_, _++_}
 use borrow.Author.Tests.{leb-true}
 use lib.Dec.{leb}
-use Rattle.primitives.proofs.Picks.{both-hold}
+use Rattle.numbers.proofs.Picks.{both-hold}
 use Rattle.utf8.specs.Grammar.{Octets}
 use Rattle.utf8.specs.Judgement.{Range, holds, after, goesOn}
 use Rattle.utf8.specs.Statements.{Utf8Sound, Utf8Complete, CharInFront, CharUnambiguous}

@@ -10,8 +10,8 @@ use native.Mathlib.Omega.{arith}
 use borrow.Author.Tests.{not-true, not-false, ne-eqb}
 use lib.ListN.{length, getD, drop, length-drop, drop-of-length-le}
 use lib.Seq.{drop-cons}
-use Rattle.primitives.specs.Pick.{pick}
-use Rattle.primitives.proofs.Picks.{second-fails}
+use Rattle.numbers.specs.Pick.{pick}
+use Rattle.numbers.proofs.Picks.{second-fails}
 use Rattle.utf8.specs.Judgement.{Range, holds, goesOn}
 use Rattle.utf8.specs.Steps.{Passed, Judged}
 use Rattle.utf8.proofs.Rows.{Row, row-1, row-after}

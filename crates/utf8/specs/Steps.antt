@@ -5,7 +5,7 @@ use mathlib.Core.Bool.{false}
 use mathlib.Core.List.{List, _∷_}
 use lib.Dec.{eqb}
 use lib.ListN.{length, drop, replicate}
-use Rattle.primitives.specs.Pick.{pick}
+use Rattle.numbers.specs.Pick.{pick}
 use Rattle.utf8.specs.Judgement.{Range, from, tail, goesOn, isUtf8}
 
 -- The octets from `at` on, the first of which are to lie in `rs`, are judged as those from `next` on, the first of

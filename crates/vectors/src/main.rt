@@ -1,6 +1,6 @@
-// Runs the libraries `primitives`, `crc32c`, `utf8`, `records` and `reading`, and of `batches` the size of a batch, on
-// cases whose expectations come from elsewhere: those of the text on standard input, and all strings of one byte and of
-// two. It prints a line for each group of cases.
+// Runs the libraries `numbers`, `primitives`, `crc32c`, `utf8`, `records` and `reading`, and of `batches` the size of a
+// batch, on cases whose expectations come from elsewhere: those of the text on standard input, and all strings of one
+// byte and of two. It prints a line for each group of cases.
 mod agreement;
 mod characters;
 mod checksums;

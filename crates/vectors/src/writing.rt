@@ -6,16 +6,16 @@ use cases::text::Spelled;
 use cases::text::same;
 use cases::text::unsigned;
 use cases::text::word;
-use primitives::Encoded;
-use primitives::Int8;
-use primitives::Int16;
-use primitives::Int32;
-use primitives::Int64;
-use primitives::Uint32;
-use primitives::Uint64;
-use primitives::Varint;
-use primitives::Varlong;
-use primitives::put;
+use numbers::Encoded;
+use numbers::Int8;
+use numbers::Int16;
+use numbers::Int32;
+use numbers::Int64;
+use numbers::Uint32;
+use numbers::Uint64;
+use numbers::Varint;
+use numbers::Varlong;
+use numbers::put;
 
 // How much room an output may have.
 const MOST_ROOM: usize = 40;

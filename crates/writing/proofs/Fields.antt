@@ -8,9 +8,9 @@ use lib.ListN.{length, length-map}
 use mir.Syntax.{w32, w64}
 use mir.Val.{SFits, toZ, ofZ}
 use mir.ValLaws.{toZ-ofZ}
+use Rattle.numbers.specs.Format.{shortest}
+use Rattle.numbers.specs.Pen.{Pen, pen, emit}
 use Rattle.primitives.specs.Step.{Step, ok, no, mapStep, times}
-use Rattle.primitives.specs.Format.{shortest}
-use Rattle.primitives.specs.Pen.{Pen, pen, emit}
 use Rattle.primitives.specs.Reading.{shown}
 use Rattle.primitives.proofs.Steps.{map-ok, map-no, times-count}
 use Rattle.records.specs.Judgement.{HeaderSpans, RecordSpans}

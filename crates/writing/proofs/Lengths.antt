@@ -6,8 +6,8 @@ use mathlib.Core.List.{List, [], _∷_, _++_}
 use native.Mathlib.Omega.{arith}
 use lib.IntN.{pos}
 use lib.ListN.{length}
+use Rattle.numbers.specs.Format.{shortest}
 use Rattle.primitives.specs.Step.{ok, times}
-use Rattle.primitives.specs.Format.{shortest}
 use Rattle.records.specs.Judgement.{RecordSpans}
 use Rattle.records.specs.Rows.{Tables}
 use Rattle.records.specs.Placed.{shownRecord, shownRecords}

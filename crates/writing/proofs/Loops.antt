@@ -7,10 +7,10 @@ use native.Mathlib.Omega.{arith}
 use native.Mathlib.Nat.{zero-add}
 use lib.IntN.{ℤ}
 use lib.ListN.{length}
+use Rattle.numbers.specs.Pen.{Pen, pen, emit}
+use Rattle.numbers.proofs.Pens.{emit-emit, emit-nothing}
 use Rattle.primitives.specs.Step.{Step, ok, no, mapStep, times}
-use Rattle.primitives.specs.Pen.{Pen, pen, emit}
 use Rattle.primitives.proofs.Steps.{map-ok, map-no, times-again, times-stop, times-done}
-use Rattle.primitives.proofs.Pens.{emit-emit, emit-nothing}
 use Rattle.records.specs.Judgement.{HeaderSpans, RecordSpans}
 use Rattle.records.specs.Rows.{Tables}
 use Rattle.records.specs.Placed.{shownHeader}

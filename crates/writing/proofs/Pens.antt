@@ -9,14 +9,14 @@ use lib.Seq.{take-append-seam, length-take-le}
 use mir.Syntax.{w32, w64}
 use mir.Val.{SFits, toZ, ofZ}
 use mir.ValLaws.{toZ-pos, toZ-ofZ}
-use Rattle.primitives.specs.declared.Encoded.{Encoded}
+use Rattle.numbers.specs.declared.Encoded.{Encoded}
+use Rattle.numbers.specs.Format.{shortest}
+use Rattle.numbers.specs.Answers.{inTen}
+use Rattle.numbers.specs.Pen.{Pen, pen, emit}
+use Rattle.numbers.specs.Promises.{PutPromise}
+use Rattle.numbers.proofs.Pens.{put-emits, emit-emit}
 use Rattle.primitives.specs.declared.Span.{Span as Declared}
-use Rattle.primitives.specs.Format.{shortest}
-use Rattle.primitives.specs.Answers.{inTen}
-use Rattle.primitives.specs.Pen.{Pen, pen, emit}
-use Rattle.primitives.specs.Promises.{PutPromise}
 use Rattle.primitives.specs.Reading.{shown}
-use Rattle.primitives.proofs.Pens.{put-emits, emit-emit}
 use Rattle.records.specs.Judgement.{bytesOf}
 use Rattle.records.specs.Written.{writtenBytes, writtenNullable}
 use Rattle.sizes.specs.Inside.{NullableInside}

@@ -7,8 +7,8 @@ use lib.ListN.{length}
 use mir.Syntax.{w32, w64}
 use mir.Val.{SFits, toZ, ofZ}
 use mir.ValLaws.{toZ-ofZ}
+use Rattle.numbers.specs.Format.{fewest, shortest}
 use Rattle.primitives.specs.declared.Span.{Span}
-use Rattle.primitives.specs.Format.{fewest, shortest}
 use Rattle.sizes.specs.Promises.{NumberSizePromise}
 use Rattle.sizes.specs.Sizes.{spanSize, placeSize, lengthIn, headSize, cap, capped}
 use Rattle.sizes.proofs.Steps.{number-back, count-back}

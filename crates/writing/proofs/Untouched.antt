@@ -4,7 +4,7 @@ use mathlib.Core.Path.{_≡_, ap}
 use mathlib.Core.Bool.{Bool, true, false}
 use lib.Dec.{leb}
 use lib.ListN.{length}
-use Rattle.primitives.specs.Pick.{pick}
+use Rattle.numbers.specs.Pick.{pick}
 use Rattle.writing.specs.Answers.{Answer, writes, refuses, viewWritten, given, refused, over}
 use Rattle.writing.specs.Statements.{RefusedUntouched}
 

@@ -7,13 +7,13 @@ use native.Mathlib.Omega.{arith}
 use borrow.Author.Tests.{le-leb, lt-leb, leb-true}
 use lib.Dec.{leb}
 use lib.ListN.{length}
-use Rattle.primitives.specs.Pick.{pick}
+use Rattle.numbers.specs.Pick.{pick}
+use Rattle.numbers.specs.Pen.{pen, emit}
+use Rattle.numbers.proofs.Pens.{emit-inside}
 use Rattle.primitives.specs.Step.{Step, ok, no, mapStep, times}
-use Rattle.primitives.specs.Pen.{pen, emit}
 use Rattle.primitives.proofs.Steps.{ok-not-no, map-ok, map-no}
 use Rattle.primitives.proofs.Refusing.{refused-by as by-number}
 use Rattle.primitives.proofs.Picks.{picked}
-use Rattle.primitives.proofs.Pens.{emit-inside}
 use Rattle.records.specs.Judgement.{RecordSpans}
 use Rattle.records.specs.Rows.{Tables}
 use Rattle.records.specs.Placed.{shownRecords}

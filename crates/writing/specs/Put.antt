@@ -2,9 +2,9 @@
 use Prim.Native.Nat.{ℕ, _+_}
 use mathlib.Core.List.{List, [], _∷_, _++_}
 use lib.IntN.{pos}
-use Rattle.primitives.specs.Format.{shortest}
+use Rattle.numbers.specs.Format.{shortest}
+use Rattle.numbers.specs.Pen.{Pen, pen}
 use Rattle.primitives.specs.Step.{Step, ok, no}
-use Rattle.primitives.specs.Pen.{Pen, pen}
 use Rattle.records.specs.Judgement.{RecordSpans}
 use Rattle.records.specs.Placed.{shownRecord}
 use Rattle.records.specs.Written.{writtenFields}

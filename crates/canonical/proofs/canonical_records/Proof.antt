@@ -1,6 +1,6 @@
 -- `canonical::canonical_records` meets its contract. Assumes nothing.
 use borrow.Author.Needs.{needs}
-use Rattle.primitives.specs.Exactly.{Exactly}
+use Rattle.numbers.specs.Exactly.{Exactly}
 use Rattle.canonical.specs.Promises.{StandStrictly}
 use Rattle.canonical.proofs.StrictSteps.{run-stop, run-turn, run-ends, run-elsewhere}
 use Rattle.canonical.proofs.canonical_records.Statement.{statement}

@@ -1,6 +1,6 @@
 -- `layout::put_int8` meets its contract. Assumes nothing.
 use borrow.Author.Needs.{needs}
-use Rattle.primitives.proofs.Pens.{known-put}
+use Rattle.numbers.proofs.Pens.{known-put}
 use Rattle.layout.proofs.put_int8.Statement.{statement}
 use Rattle.layout.proofs.put_int8.Tie as tie
 

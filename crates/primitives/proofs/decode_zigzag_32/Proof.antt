@@ -6,8 +6,9 @@ use native.Mathlib.Omega.{arith}
 use lib.Bits.{bitXor}
 use mir.Syntax.{w32, w64}
 use mir.Val.{SFits}
+use Rattle.numbers.proofs.Signs.{cast-fits, cast-back}
 use Rattle.primitives.proofs.Mask.{unmasked, masked-below}
-use Rattle.primitives.proofs.Signs.{signed-fits, cast-fits, cast-back}
+use Rattle.primitives.proofs.Fields.{signed-fits}
 use Rattle.primitives.proofs.decode_zigzag_32.Statement.{statement}
 use Rattle.primitives.proofs.decode_zigzag_32.Tie as tie
 

@@ -7,8 +7,8 @@ use native.Mathlib.Omega.{arith}
 use lib.IntN.{negsuc}
 use mir.Syntax.{w64}
 use mir.ValLaws.{toZ-pos}
+use Rattle.numbers.proofs.Signs.{less-fits, less-back}
 use Rattle.primitives.proofs.Integers.{signed-low, signed-high}
-use Rattle.primitives.proofs.Signs.{less-fits, less-back}
 use Rattle.primitives.proofs.signed.Statement.{statement}
 use Rattle.primitives.proofs.signed.Tie as tie
 

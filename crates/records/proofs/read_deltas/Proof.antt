@@ -1,6 +1,6 @@
 -- `records::read_deltas` meets its contract. Assumes nothing.
 use borrow.Author.Needs.{needs}
-use Rattle.primitives.proofs.Signs.{widen-fits}
+use Rattle.numbers.proofs.Signs.{widen-fits}
 use native.Mathlib.Omega.{arith}
 use mir.Syntax.{w32, w64}
 use Rattle.records.proofs.FieldSteps.{deltas-got, no-offset, no-timestamp, no-attributes}

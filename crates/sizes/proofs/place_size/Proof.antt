@@ -2,7 +2,7 @@
 use borrow.Author.Needs.{needs}
 use native.Mathlib.Omega.{arith}
 use mir.Syntax.{w64}
-use Rattle.primitives.proofs.Signs.{nonnegative}
+use Rattle.numbers.proofs.Signs.{nonnegative}
 use Rattle.sizes.proofs.Steps.{place-got, place-null}
 use Rattle.sizes.proofs.place_size.Statement.{statement}
 use Rattle.sizes.proofs.place_size.Tie as tie

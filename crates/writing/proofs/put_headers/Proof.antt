@@ -4,8 +4,8 @@ use Rattle.writing.proofs.Loops.{rest, headersOn, header-stop, headers-
 use Rattle.asking.specs.Asked.{headerAsked}
 use Rattle.records.specs.Written.{writtenHeaders}
 use Rattle.records.specs.Placed.{shownHeader}
+use Rattle.numbers.specs.Pen.{pen, emit}
 use Rattle.primitives.specs.Step.{mapStep, times}
-use Rattle.primitives.specs.Pen.{pen, emit}
 use lib.ListN.{length}
 use borrow.Author.Needs.{needs}
 use native.Mathlib.Omega.{arith}

@@ -3,8 +3,8 @@ use Rattle.writing.proofs.Loops.{rest, recordsOn, records-turn, records
 use Rattle.writing.specs.Put.{cappedRecords}
 use Rattle.asking.specs.Asked.{rowPlace, recordAsked}
 use Rattle.records.specs.Rows.{tables}
+use Rattle.numbers.specs.Pen.{pen, emit}
 use Rattle.primitives.specs.Step.{mapStep, times}
-use Rattle.primitives.specs.Pen.{pen, emit}
 use lib.ListN.{length}
 use denote.Ref.{now}
 use borrow.Author.Needs.{needs}

@@ -2,7 +2,7 @@
 use borrow.Author.Needs.{needs}
 use lib.Dec.{lit≤}
 use mir.Syntax.{w16, w32, w64}
-use Rattle.primitives.proofs.Signs.{widen-fits}
+use Rattle.numbers.proofs.Signs.{widen-fits}
 use Rattle.batch_vectors.proofs.batch.accepted.Statement.{statement}
 use Rattle.batch_vectors.proofs.batch.accepted.Tie as tie
 

@@ -4,7 +4,7 @@ use native.Mathlib.Omega.{arith}
 use mathlib.Core.Path.{ap, _∙_}
 use lib.IntN.{ℤ}
 use mir.Syntax.{w64}
-use Rattle.primitives.proofs.Signs.{nonnegative, negative, negative-fits}
+use Rattle.numbers.proofs.Signs.{nonnegative, negative, negative-fits}
 use Rattle.listing.specs.Text.{spaced, signedDecimal}
 use Rattle.listing.specs.Writing.{written}
 use Rattle.listing.proofs.Lines.{onto-byte}

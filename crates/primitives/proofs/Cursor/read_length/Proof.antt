@@ -2,8 +2,8 @@
 use borrow.Author.Needs.{needs}
 use native.Mathlib.Omega.{arith}
 use mir.Syntax.{w32}
+use Rattle.numbers.proofs.Signs.{nonnegative}
 use Rattle.primitives.proofs.Lengths.{length-got, length-null, length-not-null, length-below, length-refused}
-use Rattle.primitives.proofs.Signs.{nonnegative}
 use Rattle.primitives.proofs.Cursor.read_length.Statement.{statement}
 use Rattle.primitives.proofs.Cursor.read_length.Tie as tie
 

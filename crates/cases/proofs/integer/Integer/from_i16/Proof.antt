@@ -2,7 +2,7 @@
 use borrow.Author.Needs.{needs}
 use lib.Dec.{lit≤}
 use mir.Syntax.{w16, w64}
-use Rattle.primitives.proofs.Signs.{widen-fits}
+use Rattle.numbers.proofs.Signs.{widen-fits}
 use Rattle.cases.proofs.integer.Integer.from_i16.Statement.{statement}
 use Rattle.cases.proofs.integer.Integer.from_i16.Tie as tie
 

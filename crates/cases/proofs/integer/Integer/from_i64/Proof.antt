@@ -3,7 +3,7 @@
 use native.Mathlib.Omega.{arith}
 use borrow.Author.Needs.{needs}
 use mir.Syntax.{w64}
-use Rattle.primitives.proofs.Signs.{nonnegative, negative, negative-fits}
+use Rattle.numbers.proofs.Signs.{nonnegative, negative, negative-fits}
 use Rattle.cases.proofs.integer.Integer.from_i64.Statement.{statement}
 use Rattle.cases.proofs.integer.Integer.from_i64.Tie as tie
 

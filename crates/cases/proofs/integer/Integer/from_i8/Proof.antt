@@ -2,7 +2,7 @@
 use borrow.Author.Needs.{needs}
 use lib.Dec.{lit≤}
 use mir.Syntax.{w8, w64}
-use Rattle.primitives.proofs.Signs.{widen-fits}
+use Rattle.numbers.proofs.Signs.{widen-fits}
 use Rattle.cases.proofs.integer.Integer.from_i8.Statement.{statement}
 use Rattle.cases.proofs.integer.Integer.from_i8.Tie as tie
 

@@ -1,0 +1,10 @@
+pub mod AllBytes
+pub mod Integers
+pub mod Pens
+pub mod Picks
+pub mod Shortest
+pub mod Signs
+pub mod Single
+pub mod Widths
+pub mod Written
+pub mod Zigzag

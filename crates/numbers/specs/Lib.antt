@@ -1,0 +1,9 @@
+pub mod Pen
+pub mod Pick
+pub mod Bytes
+pub mod Single
+pub mod Exactly
+pub mod Format
+pub mod Answers
+pub mod Promises
+pub mod Statements
