@@ -56,8 +56,6 @@ impl BatchFields {
     pub const UNCOUNTED: usize = 12;
     // What it counts outside the checksum.
     pub const UNCHECKED: usize = 9;
-    // The fixed checked part.
-    pub const FIXED_CHECKED: usize = 40;
     // The whole fixed part.
     pub const FIXED: usize = 61;
 
