@@ -4,7 +4,7 @@ use Prim.Native.Nat.{ℕ}
 use mathlib.Core.Path.{_≡_}
 use mathlib.Core.Bool.{Bool, true}
 use mathlib.Core.List.{List}
-use lib.IntN.{ℤ, pos, _+ℤ_}
+use lib.IntN.{ℤ}
 use lib.ListN.{length}
 use Rattle.numbers.specs.Exactly.{Exactly}
 use Rattle.records.specs.Rows.{Tables}
@@ -12,8 +12,8 @@ use Rattle.writing.specs.declared.Written.{Written}
 use Rattle.writing.specs.Answers.{given, viewWritten, measured}
 use Rattle.writing.specs.Promises.{WriteOutcome, WriteBy}
 use Rattle.layout.specs.declared.RecordTime.{RecordTime}
-use Rattle.layout.specs.Table.{uncounted}
 use Rattle.layout.specs.Time.{recordTime, viewTime}
+use Rattle.layout.specs.Promises as Layout
 use Rattle.opening.specs.Judgement.{accepted, Accepted, Judgement, judge}
 use Rattle.batches.specs.declared.RecordBatch.{RecordBatch}
 use Rattle.batches.specs.declared.ControlBatchOrRecords.{ControlBatchOrRecords}
@@ -24,7 +24,7 @@ use Rattle.batches.specs.Answers.{viewFields, viewCheck, viewRead, answe
 
 -- RecordBatch::total_size, of any batchLength
 abbrev pub TotalSizePromise : ℤ → ℤ → Type 0
-TotalSizePromise batchLength r = r ≡ pos uncounted +ℤ batchLength
+TotalSizePromise batchLength r = Layout.TotalSizePromise batchLength r
 
 -- RecordBatch::check, on bytes s
 abbrev pub CheckPromise : List ℕ → BatchCheck → Type 0

@@ -7,7 +7,6 @@ use lib.Dec.{eqb, leb}
 use lib.IntN.{pos}
 use lib.ListN.{length, replicate}
 use Rattle.numbers.specs.Pick.{pick}
-use Rattle.numbers.specs.Format.{bigEndian}
 use Rattle.primitives.specs.Step.{Step, ok, no, mapStep}
 use Rattle.crc32c.specs.Crc.{crc32c}
 use Rattle.records.specs.Format.{Record}
@@ -16,8 +15,8 @@ use Rattle.records.specs.Judgement.{RecordSpans}
 use Rattle.records.specs.Rows.{Tables, tables, headersIn, withRows}
 use Rattle.asking.specs.Asked.{RowPlace, rowPlace, recordsAsked}
 use Rattle.writing.specs.Answers.{Given, given, refused}
-use Rattle.layout.specs.Fixed.{signed}
-use Rattle.layout.specs.Table.{FixedFields, table, unchecked, uncountedFields, uncheckedFields, checkedFields}
+use Rattle.layout.specs.Fixed.{fixedFields}
+use Rattle.layout.specs.Table.{FixedFields, unchecked, uncountedFields, uncheckedFields, checkedFields}
 use Rattle.layout.specs.Batch.{Fields, Marker, Content, control, records, Batch}
 use Rattle.layout.specs.Format.{concat, attributesOf, howMany}
 use Rattle.markers.specs.Markers.{writtenMarker, viewMarker}
@@ -33,21 +32,7 @@ writtenContent (records rs) = writtenRecords rs
 -- the fixed fields, around a batchLength and a checksum
 abbrev pub writtenFixed : Batch Record → ℕ → ℕ → FixedFields (List ℕ)
 writtenFixed b batchLength crc =
-    record {
-      baseOffset = signed (table .baseOffset .bytes) (b .fields .baseOffset);
-      batchLength = bigEndian (table .batchLength .bytes) batchLength;
-      partitionLeaderEpoch = signed (table .partitionLeaderEpoch .bytes) (b .fields .partitionLeaderEpoch);
-      magic = bigEndian (table .magic .bytes) 2;
-      crc = bigEndian (table .crc .bytes) crc;
-      attributes = bigEndian (table .attributes .bytes) (attributesOf true 0 b);
-      lastOffsetDelta = signed (table .lastOffsetDelta .bytes) (b .fields .lastOffsetDelta);
-      firstTimestamp = signed (table .firstTimestamp .bytes) (b .fields .firstTimestamp);
-      maxTimestamp = signed (table .maxTimestamp .bytes) (b .fields .maxTimestamp);
-      producerId = signed (table .producerId .bytes) (b .fields .producerId);
-      producerEpoch = signed (table .producerEpoch .bytes) (b .fields .producerEpoch);
-      baseSequence = signed (table .baseSequence .bytes) (b .fields .baseSequence);
-      count = bigEndian (table .count .bytes) (howMany (b .content));
-    }
+    fixedFields (b .fields) (pos batchLength) crc (pos (attributesOf true 0 b)) (pos (howMany (b .content)))
 
 -- what the checksum is over, which holds neither of the two
 unfoldable pub checkedBytes : Batch Record → List ℕ

@@ -7,7 +7,7 @@ use Rattle.numbers.specs.Format.{bigEndian, complement}
 use Rattle.crc32c.specs.Crc.{crc32c}
 use Rattle.layout.specs.declared.RecordBatchTimestampType.{RecordBatchTimestampType}
 use Rattle.layout.specs.declared.BatchFields.{BatchFields}
-use Rattle.layout.specs.Table.{table}
+use Rattle.layout.specs.Table.{FixedFields, table}
 use Rattle.layout.specs.Batch.{TimestampType, createTime, logAppendTime, Fields}
 use Rattle.layout.specs.Format.{concat, timestampBit, bit}
 
@@ -42,29 +42,40 @@ signed n z = bigEndian n (complement (8 * n) z)
 abbrev pub attributesFor : Fields → Bool → ℕ
 attributesFor x control = 8 * timestampBit (x .timestampType) + 16 * bit (x .transactional) + 32 * bit control
 
--- the fixed fields up to the checksum
+-- the bytes of each fixed field
+abbrev pub fixedFields : Fields → (batchLength : ℤ) (crc : ℕ) (attributes count : ℤ) → FixedFields (List ℕ)
+fixedFields x batchLength crc attributes count =
+    record {
+      baseOffset = signed (table .baseOffset .bytes) (x .baseOffset);
+      batchLength = signed (table .batchLength .bytes) batchLength;
+      partitionLeaderEpoch = signed (table .partitionLeaderEpoch .bytes) (x .partitionLeaderEpoch);
+      magic = signed (table .magic .bytes) (pos 2);
+      crc = bigEndian (table .crc .bytes) crc;
+      attributes = signed (table .attributes .bytes) attributes;
+      lastOffsetDelta = signed (table .lastOffsetDelta .bytes) (x .lastOffsetDelta);
+      firstTimestamp = signed (table .firstTimestamp .bytes) (x .firstTimestamp);
+      maxTimestamp = signed (table .maxTimestamp .bytes) (x .maxTimestamp);
+      producerId = signed (table .producerId .bytes) (x .producerId);
+      producerEpoch = signed (table .producerEpoch .bytes) (x .producerEpoch);
+      baseSequence = signed (table .baseSequence .bytes) (x .baseSequence);
+      count = signed (table .count .bytes) count;
+    }
+
+-- those up to the checksum, and those that the checksum is over, in two parts; none needs what it does not have
 unfoldable pub frameBytes : Fields → ℤ → ℕ → List ℕ
 frameBytes x batchLength crc =
-    concat (
-    signed (table .baseOffset .bytes) (x .baseOffset) ∷ signed (table .batchLength .bytes) batchLength
-    ∷ signed (table .partitionLeaderEpoch .bytes) (x .partitionLeaderEpoch) ∷ signed (table .magic .bytes) (pos 2)
-    ∷ bigEndian (table .crc .bytes) crc ∷ []
-    )
+    let f : FixedFields (List ℕ) = fixedFields x batchLength crc (pos 0) (pos 0) in
+    concat (f .baseOffset ∷ f .batchLength ∷ f .partitionLeaderEpoch ∷ f .magic ∷ f .crc ∷ [])
 
--- those that the checksum is over, in two parts
 unfoldable pub timesBytes : Fields → ℤ → List ℕ
 timesBytes x attributes =
-    concat (
-    signed (table .attributes .bytes) attributes ∷ signed (table .lastOffsetDelta .bytes) (x .lastOffsetDelta)
-    ∷ signed (table .firstTimestamp .bytes) (x .firstTimestamp) ∷ signed (table .maxTimestamp .bytes) (x .maxTimestamp) ∷ []
-    )
+    let f : FixedFields (List ℕ) = fixedFields x (pos 0) 0 attributes (pos 0) in
+    concat (f .attributes ∷ f .lastOffsetDelta ∷ f .firstTimestamp ∷ f .maxTimestamp ∷ [])
 
 unfoldable pub producerBytes : Fields → ℤ → List ℕ
 producerBytes x count =
-    concat (
-    signed (table .producerId .bytes) (x .producerId) ∷ signed (table .producerEpoch .bytes) (x .producerEpoch)
-    ∷ signed (table .baseSequence .bytes) (x .baseSequence) ∷ signed (table .count .bytes) count ∷ []
-    )
+    let f : FixedFields (List ℕ) = fixedFields x (pos 0) 0 (pos 0) count in
+    concat (f .producerId ∷ f .producerEpoch ∷ f .baseSequence ∷ f .count ∷ [])
 
 abbrev pub checkedPart : Fields → ℤ → ℤ → List ℕ
 checkedPart x attributes count = timesBytes x attributes ++ producerBytes x count

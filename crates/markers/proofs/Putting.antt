@@ -23,5 +23,5 @@ pub commit-bytes : (m : ControlBatchRecord) → m ≡ ControlBatchRecord.Commit 
 commit-bytes m e = commit-is ∙ ap (λ (x : ControlBatchRecord). writtenMarker (viewMarker x)) (sym e)
 
 -- bytes that are known
-pub known-put : (bs bytes out : List ℕ) (at : ℕ) (o : PutOutcome) → bytes ≡ bs → PutPromise bytes out at o → PutPromise bs out at o
-known-put bs bytes out at o e h = subst (λ (x : List ℕ). PutPromise x out at o) e h
+pub put-same : (bs bytes out : List ℕ) (at : ℕ) (o : PutOutcome) → bytes ≡ bs → PutPromise bytes out at o → PutPromise bs out at o
+put-same bs bytes out at o e h = subst (λ (x : List ℕ). PutPromise x out at o) e h

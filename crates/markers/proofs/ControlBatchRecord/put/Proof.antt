@@ -1,5 +1,5 @@
 -- `markers::ControlBatchRecord::put` meets its contract. Assumes nothing.
-use Rattle.markers.proofs.Putting.{known-put}
+use Rattle.markers.proofs.Putting.{put-same}
 use borrow.Author.Needs.{needs}
 use Rattle.markers.proofs.ControlBatchRecord.put.Statement.{statement}
 use Rattle.markers.proofs.ControlBatchRecord.put.Tie as tie
@@ -17,7 +17,7 @@ same-length : tie.Need-same-length
 same-length c = search needs
 
 returns : tie.Need-returns
-returns c = search (known-put, needs)
+returns c = search (put-same, needs)
 
 pub put-spec : {M : Type 1} → statement M
 put-spec = tie.close (tie.spec bytes-requires slice-aggregate-put put-requires same-length returns)
