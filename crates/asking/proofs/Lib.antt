@@ -1,5 +1,5 @@
 pub mod Accepted
-mod Asks
+pub mod Asks
 mod HeaderRows
 pub mod Own
 mod RecordRows

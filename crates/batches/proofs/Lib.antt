@@ -7,7 +7,7 @@ pub mod Canonical
 pub mod Complete
 pub mod Encodes
 pub mod Given
-mod Giving
+pub mod Giving
 mod Handed
 pub mod Numbers
 pub mod Only

@@ -1,0 +1,187 @@
+-- What entries ask for, and what is given for them, by the tests that the code makes. The premises have the form in which a
+-- proof finds them. Assumes nothing.
+use Prim.Native.Nat.{ℕ, _+_, _≤_}
+use mathlib.Core.Path.{_≡_, refl, sym, ap, subst, _∙_}
+use mathlib.Core.Bool.{Bool, true, false, not}
+use mathlib.Core.Option.{Option, none, some}
+use mathlib.Core.List.{List, [], _∷_}
+use native.Mathlib.Omega.{arith}
+use lib.Dec.{leb}
+use lib.IntN.{ℤ, pos}
+use lib.ListN.{length, getD}
+use mir.Syntax.{w64}
+use mir.Val.{SFits, toZ, ofZ}
+use mir.ValLaws.{toZ-ofZ}
+use Rattle.numbers.specs.Pick.{pick}
+use Rattle.records.specs.Rows.{Tables}
+use Rattle.asking.specs.declared.WriteFault.{WriteFault}
+use Rattle.layout.specs.Batch.{Fields}
+use Rattle.writing.specs.declared.Written.{Written}
+use Rattle.writing.specs.Answers.{Answer, writes, refuses, viewWritten, Given, given, refused, measured, answerDue, outputDue}
+use Rattle.writing.specs.Promises.{WriteBy}
+use Rattle.writing.specs.Promises as Writing
+use Rattle.opening.specs.Judgement.{is}
+use Rattle.batches.specs.declared.RecordBatch.{RecordBatch}
+use Rattle.batches.specs.declared.ControlBatchOrRecords.{ControlBatchOrRecords}
+use Rattle.batches.specs.Answers.{viewFields}
+use Rattle.batches.specs.Writer.{Wanted, viewWanted, batchGiven}
+use Rattle.batches.proofs.Encodes.{content-length, shows}
+use Rattle.batches.proofs.Given.{given-for}
+use Rattle.batches.proofs.Giving.{written-length}
+use Rattle.oddrafisk.specs.declared.asked.BatchAsked.{BatchAsked}
+use Rattle.oddrafisk.specs.declared.asked.KindAsked.{KindAsked}
+use Rattle.oddrafisk.specs.Entries.{fieldsFit, fieldsOf, kindWanted, AskedBatch, askedWith, entriesAsked}
+use Rattle.oddrafisk.specs.Promises.{givenFor, entriesGiven, Sizes, MeasurePromise, WritePromise}
+use Rattle.oddrafisk.specs.Words.{viewAsked, viewKindAsked}
+use Rattle.oddrafisk.proofs.Tests.{is-so, is-not}
+use Rattle.oddrafisk.proofs.Fitting.{negated, affirmed}
+
+-- ---- what entries ask for
+
+module _ (e : List ℤ) (r : Bool) (t : r ≡ fieldsFit e) where
+  pub unfit-asked : not r ≡ true → none ≡ entriesAsked e
+  unfolding entriesAsked
+  unfit-asked h = rw (sym t ∙ negated r h) refl
+
+  pub fit-so : not r ≡ false → fieldsFit e ≡ true
+  fit-so h = sym t ∙ affirmed r h
+
+  module _ (h : not r ≡ false) (f : SFits w64 (getD e 10 (pos 0))) (g : SFits w64 (getD e 11 (pos 0))) (k : KindAsked)
+      (v : viewKindAsked k ≡ kindWanted (toZ w64 (ofZ w64 (getD e 10 (pos 0)))) (toZ w64 (ofZ w64 (getD e 11 (pos 0))))) where
+    asked-by : askedWith (fieldsOf e) (viewKindAsked k) ≡ entriesAsked e
+    unfolding entriesAsked
+    asked-by =
+        rw (fit-so h)
+        (ap (askedWith (fieldsOf e)) (v ∙ (λ i. kindWanted (toZ-ofZ w64 (getD e 10 (pos 0)) f i) (toZ-ofZ w64 (getD e 11 (pos 0)) g i))))
+
+    pub kind-wrong : k ≡ KindAsked.Wrong → none ≡ entriesAsked e
+    kind-wrong p = ap (λ (k : KindAsked). askedWith (fieldsOf e) (viewKindAsked k)) (sym p) ∙ asked-by
+
+    pub kind-got : (x : ControlBatchOrRecords) → k ≡ KindAsked.Got x → (b : RecordBatch) → viewFields b ≡ fieldsOf e
+        → some (record { fields = viewFields b; wanted = viewWanted x }) ≡ entriesAsked e
+    kind-got x p b q =
+        ap (λ (y : Fields). some (record { fields = y; wanted = viewWanted x })) q
+        ∙ ap (λ (k : KindAsked). askedWith (fieldsOf e) (viewKindAsked k)) (sym p) ∙ asked-by
+
+-- ---- what is given for them
+
+module _ (e : List ℤ) (codec : ℤ) (f : SFits w64 codec) (t : Tables) (s : List ℕ) where
+  abbrev gives : Given
+  gives = entriesGiven e codec t s
+
+  codec-refused : (ofZ w64 codec ≡ 0 → ⊥) → refused 20 ≡ gives
+  codec-refused z = rw (is-not codec f 0 (omega arith) z) refl
+
+  pub measure-codec : (ofZ w64 codec ≡ 0 → ⊥) → refuses 20 ≡ measured gives
+  measure-codec z = ap measured (codec-refused z)
+
+  pub write-codec : (ofZ w64 codec ≡ 0 → ⊥) → (out : List ℕ)
+      → WriteBy gives 0 out (record { result = Written.Refused WriteFault.Codec; output = out })
+  write-codec z out = subst (λ (g : Given). WriteBy g 0 out (record { result = Written.Refused WriteFault.Codec; output = out })) (codec-refused z) (record { answer = refl; output = refl })
+
+  module _ (z : ofZ w64 codec ≡ 0) (x : BatchAsked) (v : viewAsked x ≡ entriesAsked e) where
+    given-by : givenFor (viewAsked x) t s ≡ gives
+    given-by = rw (is-so codec f 0 (omega arith) z) (ap (λ (a : Option AskedBatch). givenFor a t s) v)
+
+    module _ (w : x ≡ BatchAsked.Wrong) where
+      entries-refused : refused 21 ≡ gives
+      entries-refused = ap (λ (x : BatchAsked). givenFor (viewAsked x) t s) (sym w) ∙ given-by
+
+      pub measure-wrong : refuses 21 ≡ measured gives
+      measure-wrong = ap measured entries-refused
+
+      pub write-wrong : (out : List ℕ) → WriteBy gives 0 out (record { result = Written.Refused WriteFault.Row; output = out })
+      write-wrong out = subst (λ (g : Given). WriteBy g 0 out (record { result = Written.Refused WriteFault.Row; output = out })) entries-refused (record { answer = refl; output = refl })
+
+    module _ (b : RecordBatch) (k : ControlBatchOrRecords) (w : x ≡ BatchAsked.Got b k) where
+      entries-given : batchGiven (viewFields b) 0 (viewWanted k) t s ≡ gives
+      entries-given = ap (λ (x : BatchAsked). givenFor (viewAsked x) t s) (sym w) ∙ given-by
+
+      pub measure-got : (r : Written) → viewWritten r ≡ measured (batchGiven (viewFields b) 0 (viewWanted k) t s) → viewWritten r ≡ measured gives
+      measure-got r p = p ∙ ap measured entries-given
+
+      pub write-got : (out : List ℕ) (o : Writing.WriteOutcome) → WriteBy (batchGiven (viewFields b) 0 (viewWanted k) t s) 0 out o → WriteBy gives 0 out o
+      write-got out o p = subst (λ (g : Given). WriteBy g 0 out o) entries-given p
+
+-- ---- lengths
+
+abbrev Short : Given → Type 0
+Short (given bs) = length bs ≤ 2147483659
+Short (refused n) = Unit {0}
+
+batch-short : (x : Fields) (wanted : Wanted) (t : Tables) (s : List ℕ) (g : Given) → batchGiven x 0 wanted t s ≡ g → Short g
+batch-short x wanted t s (given bs) e =
+    let g = given-for x 0 wanted t s e in
+    let b = shows x s (g .content) in
+    rw (g .bytes) (omega (arith, g .short, content-length b, written-length b))
+batch-short x wanted t s (refused n) e = tt
+
+entries-short : (e : List ℤ) (codec : ℤ) (t : Tables) (s : List ℕ) → Short (entriesGiven e codec t s)
+entries-short e codec t s = pick-short (is 0 codec) (givenFor (entriesAsked e) t s) (for (entriesAsked e))
+  where
+    pick-short : (b : Bool) (g : Given) → Short g → Short (pick b g (refused 20))
+    pick-short true g h = h
+    pick-short false g h = tt
+
+    for : (a : Option AskedBatch) → Short (givenFor a t s)
+    for none = tt
+    for (some b) = batch-short (b .fields) (b .wanted) t s _ refl
+
+measured-short : (g : Given) → Short g → measured g .bytes ≤ 2147483659
+measured-short (given bs) h = h
+measured-short (refused n) h = omega arith
+
+due-short : (out : List ℕ) (g : Given) → Short g → answerDue 0 out g .bytes ≤ 2147483659
+due-short out (given bs) h = go (leb (0 + length bs) (length out))
+  where
+    go : (b : Bool) → pick b (writes (length bs)) (refuses 24) .bytes ≤ 2147483659
+    go true = h
+    go false = omega arith
+due-short out (refused n) h = omega arith
+
+-- ---- what is said
+
+module _ (a : Answer) (r : Written) (v : viewWritten r ≡ a) where
+  said : (n : ℕ) → n ≡ viewWritten r .number → (l : ℤ) → l ≡ pos (viewWritten r .bytes) → a .bytes ≤ 2147483659
+      → Sizes a (record { number = n; answer = toZ w64 (ofZ w64 l) ∷ [] })
+  said n p l q h =
+      record {
+        number = p ∙ ap (λ (a : Answer). a .number) v;
+        answer = ap (λ (z : ℤ). toZ w64 (ofZ w64 z) ∷ []) is ∙ ap (λ (z : ℤ). z ∷ []) (toZ-ofZ w64 (pos (a .bytes)) (record { sfits = omega (arith, h) }));
+      }
+    where
+      is : l ≡ pos (a .bytes)
+      is = q ∙ ap (λ (a : Answer). pos (a .bytes)) v
+
+module _ (e : List ℤ) (codec : ℤ) (f : SFits w64 codec) (t : Tables) (s : List ℕ) where
+  -- with the codec as it is handed over
+  abbrev handed : Given
+  handed = entriesGiven e (toZ w64 (ofZ w64 codec)) t s
+
+  is-given : handed ≡ entriesGiven e codec t s
+  is-given = ap (λ (z : ℤ). entriesGiven e z t s) (toZ-ofZ w64 codec f)
+
+  short : Short handed
+  short = entries-short e (toZ w64 (ofZ w64 codec)) t s
+
+  module _ (r : Written) (v : viewWritten r ≡ measured handed) where
+    pub measure-fits : viewWritten r .bytes ≤ 2147483659
+    measure-fits = rw v (measured-short handed short)
+
+    pub measure-said : (n : ℕ) → n ≡ viewWritten r .number → (l : ℤ) → l ≡ pos (viewWritten r .bytes)
+        → MeasurePromise e codec t s (record { number = n; answer = toZ w64 (ofZ w64 l) ∷ [] })
+    measure-said n p l q =
+        subst (λ (g : Given). Sizes (measured g) (record { number = n; answer = toZ w64 (ofZ w64 l) ∷ [] })) is-given
+        (said _ r v n p l q (measured-short handed short))
+
+  module _ (out : List ℕ) (o : Writing.WriteOutcome) (w : WriteBy handed 0 out o) where
+    pub write-fits : viewWritten (o .result) .bytes ≤ 2147483659
+    write-fits = rw (w .answer) (due-short out handed short)
+
+    pub write-said : (n : ℕ) → n ≡ viewWritten (o .result) .number → (l : ℤ) → l ≡ pos (viewWritten (o .result) .bytes)
+        → WritePromise e codec t s out (record { said = record { number = n; answer = toZ w64 (ofZ w64 l) ∷ [] }; output = o .output })
+    write-said n p l q =
+        record {
+          said = subst (λ (g : Given). Sizes (answerDue 0 out g) (record { number = n; answer = toZ w64 (ofZ w64 l) ∷ [] })) is-given (said _ (o .result) (w .answer) n p l q (due-short out handed short));
+          output = w .output ∙ ap (outputDue 0 out) is-given;
+        }

@@ -1,0 +1,44 @@
+-- `oddrafisk::write_asked` meets its contract. Assumes nothing.
+use borrow.Author.Needs.{needs}
+use Rattle.oddrafisk.proofs.Asking.{write-codec, write-wrong, write-got}
+use Rattle.oddrafisk.proofs.write_asked.Statement.{statement}
+use Rattle.oddrafisk.proofs.write_asked.Tie as tie
+
+returns : tie.Need-returns
+returns c = write-codec _ _ (c .before .before .before .fits .codec) _ _ (c .if1 .taken) _
+
+batch-asked-requires : tie.Need-batch-asked-requires
+batch-asked-requires c κs = search needs
+
+enum-known-batch : tie.Need-enum-known-batch
+enum-known-batch c = search needs
+
+write-requires : tie.Need-write-requires
+write-requires c κs = search needs
+
+enum-told : tie.Need-enum-told
+enum-told c = search needs
+
+same-length : tie.Need-same-length
+same-length c = search needs
+
+returns-2 : tie.Need-returns-2
+returns-2 c = let start = c .before .before .before .before .before .before .before .before .before .before .before in
+    write-got _ _ (start .fits .codec) _ _ (c .before .before .before .before .before .before .before .before .if1 .left) _ (c .before .before .before .before .before .before .before .batch-asked .ensures) _ _ (c .before .before .before .before .before .batch .given .1) _ _ (c .before .before .write .ensures)
+
+returns-3 : tie.Need-returns-3
+returns-3 c = let start = c .before .before .before .before .before .before in
+    write-wrong _ _ (start .fits .codec) _ _ (c .before .before .before .if1 .left) _ (c .before .before .batch-asked .ensures) (c .enum-told .given .1) _
+
+pub write-asked-spec : {M : Type 1} → statement M
+write-asked-spec =
+    tie.close
+    (tie.spec
+    returns
+    batch-asked-requires
+    enum-known-batch
+    write-requires
+    enum-told
+    same-length
+    returns-2
+    returns-3)

@@ -1,0 +1,4 @@
+pub mod Entries
+pub mod Promises
+pub mod Statements
+pub mod Words

@@ -1,0 +1,117 @@
+-- What each function that other languages call promises of its result and of what it is lent to change, for every value of
+-- every parameter. Each cites what the layer below promises: the same judgement, the same bytes given. All else is lent to
+-- be read: no function here can change it.
+use Prim.Native.Nat.{ℕ}
+use mathlib.Core.Path.{_≡_}
+use mathlib.Core.Bool.{false}
+use mathlib.Core.Option.{Option, none, some}
+use mathlib.Core.List.{List, [], _∷_}
+use lib.IntN.{ℤ, pos}
+use Rattle.numbers.specs.Pick.{pick}
+use Rattle.numbers.specs.Exactly.{Exactly}
+use Rattle.crc32c.specs.Promises as Checksum
+use Rattle.records.specs.Rows.{Tables}
+use Rattle.layout.specs.Batch.{TimestampType, Fields}
+use Rattle.layout.specs.Time.{recordTime}
+use Rattle.writing.specs.Answers as Writing
+use Rattle.writing.specs.Answers.{Given, refused, measured, answerDue, outputDue}
+use Rattle.opening.specs.Judgement.{is, judge}
+use Rattle.batches.specs.Answers.{Answer, answerWithRoom, roomsOf, answerOf, tablesOf}
+use Rattle.batches.specs.Writer.{batchGiven}
+use Rattle.batches.specs.Promises.{Canonical}
+use Rattle.oddrafisk.specs.Entries.{entriesOf, is0or1, typeOf, AskedBatch, entriesAsked}
+
+-- ---- the reader
+
+-- the number that is returned, with the entries at exit
+pub record Outcome : Type 0 where
+  pub number : ℕ
+  pub answer : List ℤ
+
+-- what says an answer
+pub record Says (a : Answer) (o : Outcome) : Type 0 where
+  pub number : o .number ≡ a .number
+  pub answer : o .answer ≡ entriesOf a
+
+-- oddrafisk_check, on bytes s: as RecordBatch::check
+abbrev pub CheckPromise : List ℕ → Outcome → Type 0
+CheckPromise s o = Says (answerWithRoom (judge s)) o
+
+-- the same, with both tables at exit
+pub record ReadOutcome : Type 0 where
+  pub said : Outcome
+  pub tables : Tables
+
+-- oddrafisk_read, on bytes s and tables t: as RecordBatch::read
+pub record ReadPromise (s : List ℕ) (t : Tables) (o : ReadOutcome) : Type 0 where
+  pub said : Says (answerOf (judge s) (roomsOf t)) (o .said)
+  pub tables : o .tables ≡ tablesOf (judge s) t
+
+-- ---- the writer
+
+-- entries that no batch has are refused as such rows are
+abbrev pub givenFor : Option AskedBatch → Tables → List ℕ → Given
+givenFor none t s = refused 21
+givenFor (some b) t s = batchGiven (b .fields) 0 (b .wanted) t s
+
+-- document 01, Writer's numbers, in their order: the codec, then the entries, then as RecordBatch::write
+abbrev pub entriesGiven : List ℤ → ℤ → Tables → List ℕ → Given
+entriesGiven e codec t s = pick (is 0 codec) (givenFor (entriesAsked e) t s) (refused 20)
+
+-- what says the number, and the length
+pub record Sizes (a : Writing.Answer) (o : Outcome) : Type 0 where
+  pub number : o .number ≡ a .number
+  pub answer : o .answer ≡ pos (a .bytes) ∷ []
+
+-- oddrafisk_measure, of entries e, a codec number, tables t and a source s
+abbrev pub MeasurePromise : List ℤ → ℤ → Tables → List ℕ → Outcome → Type 0
+MeasurePromise e codec t s o = Sizes (measured (entriesGiven e codec t s)) o
+
+-- the same, with the output at exit
+pub record WriteOutcome : Type 0 where
+  pub said : Outcome
+  pub output : List ℕ
+
+-- oddrafisk_write, into an output
+pub record WritePromise (e : List ℤ) (codec : ℤ) (t : Tables) (s out : List ℕ) (o : WriteOutcome) : Type 0 where
+  pub said : Sizes (answerDue 0 out (entriesGiven e codec t s)) (o .said)
+  pub output : o .output ≡ outputDue 0 out (entriesGiven e codec t s)
+
+-- ---- the rest
+
+-- oddrafisk_is_canonical, on bytes s: 1 as RecordBatch::is_canonical, else 0
+pub record CanonicalPromise (s : List ℕ) (r : ℕ) : Type 0 where
+  pub yes : Exactly (r ≡ 1) (Canonical s)
+  pub no : Exactly (r ≡ 0) (Canonical s → ⊥)
+
+-- the fields of a batch that times are told by; the others are 0
+abbrev pub timed : TimestampType → (first max : ℤ) → Fields
+timed t first max =
+    record {
+      baseOffset = pos 0;
+      partitionLeaderEpoch = pos 0;
+      lastOffsetDelta = pos 0;
+      firstTimestamp = first;
+      maxTimestamp = max;
+      producerId = pos 0;
+      producerEpoch = pos 0;
+      baseSequence = pos 0;
+      timestampType = t;
+      transactional = false;
+    }
+
+-- a type that is neither 0 nor 1 has no times
+abbrev pub timeFor : (type first max delta : ℤ) → Option ℤ
+timeFor type first max delta = pick (is0or1 type) (recordTime (timed (typeOf type) first max) delta) none
+
+abbrev pub timeSaid : Option ℤ → Outcome
+timeSaid (some t) = record { number = 1; answer = t ∷ [] }
+timeSaid none = record { number = 0; answer = pos 0 ∷ [] }
+
+-- oddrafisk_record_time: as RecordBatch::record_time
+abbrev pub RecordTimePromise : (type first max delta : ℤ) → Outcome → Type 0
+RecordTimePromise type first max delta o = o ≡ timeSaid (timeFor type first max delta)
+
+-- oddrafisk_crc32c, on bytes s
+abbrev pub Crc32cPromise : List ℕ → ℕ → Type 0
+Crc32cPromise s r = Checksum.Crc32cPromise s r

@@ -1,0 +1,20 @@
+-- Words of private contracts: what their answers say.
+use Prim.Native.Nat.{ℕ}
+use mathlib.Core.Option.{Option, none, some}
+use Rattle.batches.specs.Answers.{Answer, viewFields}
+use Rattle.batches.specs.Writer.{Wanted, viewWanted}
+use Rattle.oddrafisk.specs.declared.asked.BatchAsked.{BatchAsked}
+use Rattle.oddrafisk.specs.declared.asked.KindAsked.{KindAsked}
+use Rattle.oddrafisk.specs.Entries.{AskedBatch}
+
+abbrev pub viewAsked : BatchAsked → Option AskedBatch
+viewAsked (BatchAsked.Got b k) = some (record { fields = viewFields b; wanted = viewWanted k })
+viewAsked BatchAsked.Wrong = none
+
+abbrev pub viewKindAsked : KindAsked → Option Wanted
+viewKindAsked (KindAsked.Got k) = some (viewWanted k)
+viewKindAsked KindAsked.Wrong = none
+
+-- counts alone
+abbrev pub countsOf : ℕ → ℕ → ℕ → Answer
+countsOf n m bytes = record { number = 0; fields = none; kind = none; records = n; headers = m; bytes = bytes }
