@@ -1,0 +1,127 @@
+/* Oddrafisk: a proved reader and writer of Kafka's version 2 record batch, uncompressed.
+ *
+ * Link liboddrafisk.a. No function here allocates, keeps what it was lent, fails in any other way than by the number
+ * that it returns, or needs anything checked before it is called: each answers every value of every parameter. They share
+ * no memory but what is lent, so that threads may call them at the same time.
+ *
+ * WHAT THE CALLER OWES, for each call:
+ * - A pointer with a count is to that many elements, and a pointer to an array of N to N of them. It is not null, even
+ *   where the count is 0, and is aligned for its type.
+ * - What a call may change (a parameter that is not const) overlaps nothing else that is lent to that call.
+ *
+ * ENTRIES OF A BATCH. Sixteen numbers say what a batch is: the reader answers by them, and the writer takes them. The
+ * places in them are named below.
+ *
+ * ROWS. A record row is eight numbers: timestamp delta, offset delta, key start, key length, value start, value length,
+ * first header row, number of headers. A header row is four: key start, key length, value start, value length. Starts
+ * count from the first byte lent; null is start 0 and length -1, and in a header nothing is null. First header rows run
+ * on: each is how many headers the records before it have, even where it has none itself. A table is lent with how many
+ * numbers it has, and has as many rows as are whole; what is left over is never touched.
+ */
+#ifndef ODDRAFISK_H
+#define ODDRAFISK_H
+
+#include <stddef.h>
+#include <stdint.h>
+
+#ifdef __cplusplus
+extern "C" {
+#endif
+
+/* The places of a batch's entries. */
+enum {
+    ODDRAFISK_BASE_OFFSET = 0,
+    ODDRAFISK_PARTITION_LEADER_EPOCH = 1, /* 32 bits */
+    ODDRAFISK_LAST_OFFSET_DELTA = 2,      /* 32 bits */
+    ODDRAFISK_FIRST_TIMESTAMP = 3,
+    ODDRAFISK_MAX_TIMESTAMP = 4,
+    ODDRAFISK_PRODUCER_ID = 5,
+    ODDRAFISK_PRODUCER_EPOCH = 6,   /* 16 bits */
+    ODDRAFISK_BASE_SEQUENCE = 7,    /* 32 bits */
+    ODDRAFISK_TIMESTAMP_TYPE = 8,   /* 0 create time, 1 log append time */
+    ODDRAFISK_IS_TRANSACTIONAL = 9, /* 0 or 1 */
+    ODDRAFISK_KIND = 10,            /* ODDRAFISK_KIND_RECORDS, ODDRAFISK_KIND_ABORT or ODDRAFISK_KIND_COMMIT */
+    ODDRAFISK_RECORDS = 11,         /* how many records; a marker has none */
+    ODDRAFISK_HEADERS = 12,         /* how many headers all records have together; not looked at in writing */
+    ODDRAFISK_BYTES = 13,           /* how many bytes; not looked at in writing */
+    ODDRAFISK_ENTRIES = 16          /* how many entries there are; those not named are 0, and are to be 0 in writing */
+};
+
+/* Kinds of a batch. */
+enum { ODDRAFISK_KIND_RECORDS = 0, ODDRAFISK_KIND_ABORT = 1, ODDRAFISK_KIND_COMMIT = 2 };
+
+/* The numbers in a row of a record, and in a row of a header. */
+enum { ODDRAFISK_RECORD_ROW = 8, ODDRAFISK_HEADER_ROW = 4 };
+
+/* What the reader returns. Where an entry is not named, it is 0. */
+enum {
+    ODDRAFISK_ACCEPTED = 0,          /* all entries; ODDRAFISK_BYTES is how many the batch has */
+    ODDRAFISK_MORE_BYTES = 1,        /* ODDRAFISK_BYTES is how many are needed, counted from the first, to say more */
+    ODDRAFISK_LENGTH_TOO_SMALL = 2,  /* batchLength below 9 */
+    ODDRAFISK_UNKNOWN_MAGIC = 3,     /* magic not 2 */
+    ODDRAFISK_CHECKSUM_DIFFERS = 4,  /* CRC-32C is another */
+    ODDRAFISK_UNKNOWN_CODEC = 5,     /* codec 5, 6 or 7 */
+    ODDRAFISK_COMPRESSED = 6,        /* codec 1 to 4 */
+    ODDRAFISK_WRONG_COUNT = 7,       /* count below -1, or of a control batch not 1 */
+    ODDRAFISK_PAST_END = 8,          /* a field runs past its record or the batch */
+    ODDRAFISK_BEYOND_LIMITS = 9,     /* a varint of too many bytes, or too large */
+    ODDRAFISK_NEGATIVE_LENGTH = 10,  /* a length or a count that is negative and may not be */
+    ODDRAFISK_KEY_NOT_UTF8 = 11,     /* the key of a header is not UTF-8 */
+    ODDRAFISK_UNKNOWN_CONTROL = 12,  /* version or type of a control batch unknown */
+    ODDRAFISK_BYTES_LEFT = 13,       /* bytes left in a record, or after the last record or the marker */
+    ODDRAFISK_NO_ROOM = 14           /* a table is short: ODDRAFISK_RECORDS and ODDRAFISK_HEADERS are the rows needed */
+};
+
+/* What the writer returns, beside 0. */
+enum {
+    ODDRAFISK_CODEC_ASKED = 20,      /* the codec is not 0 */
+    ODDRAFISK_WRONG_ROW = 21,        /* entries or rows that no batch has */
+    ODDRAFISK_ASKED_NOT_UTF8 = 22,   /* the key of a header is not UTF-8 */
+    ODDRAFISK_TOO_LONG = 23,         /* batchLength would exceed 2147483647 */
+    ODDRAFISK_SHORT_OUTPUT = 24      /* the output is shorter than the batch */
+};
+
+/* What the bytes begin with: returns ODDRAFISK_ACCEPTED or 1 to 13. It needs no tables, and says with RECORDS and HEADERS
+ * how many rows oddrafisk_read needs. A return of 2 to 13 stands whatever bytes may follow. */
+uint32_t oddrafisk_check(const uint8_t *bytes, size_t bytes_count, int64_t answer[ODDRAFISK_ENTRIES]);
+
+/* The same, and the rows of the batch's records and of their headers in the first rows of both tables; all else in the
+ * tables is as it was, and every return but ODDRAFISK_ACCEPTED leaves them untouched. Returns ODDRAFISK_ACCEPTED or 1 to
+ * 14. Tables need not be cleared first. */
+uint32_t oddrafisk_read(const uint8_t *bytes, size_t bytes_count, int64_t *records, size_t records_count, int64_t *headers,
+                        size_t headers_count, int64_t answer[ODDRAFISK_ENTRIES]);
+
+/* How many bytes the batch has when it is written: answer[0], where 0 is returned; else 20 to 23 is returned, and answer[0]
+ * is 0. It has the entries of `batch`, and where its kind is of records, as many as ODDRAFISK_RECORDS says, from the first
+ * rows of both tables; their spans lie in the source. A marker looks at none of these. `codec` other than 0 is refused.
+ * ODDRAFISK_WRONG_ROW is an entry that leaves its width, an unknown kind, a count of records below 0, or an entry not named
+ * that is not 0; more records than rows; or in a row a span outside the source, a length that its place does not allow,
+ * null with a start that is not 0, an offset delta that leaves 32 bits, or headers that do not run on or run past their
+ * table. */
+uint32_t oddrafisk_measure(const int64_t batch[ODDRAFISK_ENTRIES], int64_t codec, const int64_t *records,
+                           size_t records_count, const int64_t *headers, size_t headers_count, const uint8_t *source,
+                           size_t source_count, int64_t answer[1]);
+
+/* Writes that batch to the start of the output, and changes no other byte of it. Returns as oddrafisk_measure does, or
+ * ODDRAFISK_SHORT_OUTPUT; what is refused leaves the output untouched. */
+uint32_t oddrafisk_write(const int64_t batch[ODDRAFISK_ENTRIES], int64_t codec, const int64_t *records, size_t records_count,
+                         const int64_t *headers, size_t headers_count, const uint8_t *source, size_t source_count,
+                         uint8_t *output, size_t output_count, int64_t answer[1]);
+
+/* 1 where the bytes, all of them, are one batch just as oddrafisk_write gives it, else 0. */
+uint32_t oddrafisk_is_canonical(const uint8_t *bytes, size_t bytes_count);
+
+/* The time of a record with this delta, in a batch with this timestamp type, first and greatest timestamp: returns 1 and
+ * the time in answer[0]; or 0, and 0 in answer[0], where there is none, because it leaves 64 bits or the type is neither 0
+ * nor 1. */
+uint32_t oddrafisk_record_time(int64_t timestamp_type, int64_t first_timestamp, int64_t max_timestamp, int64_t delta,
+                               int64_t answer[1]);
+
+/* CRC-32C (Castagnoli) of the bytes. */
+uint32_t oddrafisk_crc32c(const uint8_t *bytes, size_t bytes_count);
+
+#ifdef __cplusplus
+}
+#endif
+
+#endif

@@ -1,0 +1,649 @@
+/* Calls every function of oddrafisk.h and compares what it answers with document 01. It is C11 and C++17. Prints each
+ * check that does not hold and how many were made, and fails where one does not hold. */
+#include "oddrafisk.h"
+
+#include <inttypes.h>
+#include <stdio.h>
+#include <stdlib.h>
+#include <string.h>
+
+static unsigned made, failed;
+
+static void expect(int holds, int line, const char *what)
+{
+    made++;
+    if (holds)
+        return;
+    failed++;
+    printf("line %d: %s\n", line, what);
+}
+
+#define EXPECT(holds) expect((holds), __LINE__, #holds)
+
+#define COUNT(array) (sizeof(array) / sizeof(array)[0])
+
+/* What lent memory holds before a call. */
+enum { UNTOUCHED_BYTE = 0xAA };
+#define UNTOUCHED INT64_C(-7777)
+
+/* Tables with room for three rows each, and a part of a fourth. */
+enum { RECORD_ROOM = 3 * ODDRAFISK_RECORD_ROW + 7, HEADER_ROOM = 3 * ODDRAFISK_HEADER_ROW + 3 };
+
+typedef struct {
+    int64_t records[RECORD_ROOM];
+    int64_t headers[HEADER_ROOM];
+} tables;
+
+static void fill(int64_t *numbers, size_t count, int64_t number)
+{
+    for (size_t i = 0; i < count; i++)
+        numbers[i] = number;
+}
+
+static int all_are(const int64_t *numbers, size_t count, int64_t number)
+{
+    for (size_t i = 0; i < count; i++)
+        if (numbers[i] != number)
+            return 0;
+    return 1;
+}
+
+static int untouched_bytes(const uint8_t *bytes, size_t count)
+{
+    for (size_t i = 0; i < count; i++)
+        if (bytes[i] != UNTOUCHED_BYTE)
+            return 0;
+    return 1;
+}
+
+static int same_numbers(const int64_t *a, const int64_t *b, size_t count)
+{
+    return memcmp(a, b, count * sizeof *a) == 0;
+}
+
+static void clear_tables(tables *t)
+{
+    fill(t->records, RECORD_ROOM, UNTOUCHED);
+    fill(t->headers, HEADER_ROOM, UNTOUCHED);
+}
+
+static int untouched_from(const tables *t, size_t record, size_t header)
+{
+    return all_are(t->records + record, RECORD_ROOM - record, UNTOUCHED)
+           && all_are(t->headers + header, HEADER_ROOM - header, UNTOUCHED);
+}
+
+/* Whether the answer is 0 in all entries but the three counts, and those are as given. */
+static int counts_only(const int64_t *answer, int64_t records, int64_t headers, int64_t bytes)
+{
+    int64_t expected[ODDRAFISK_ENTRIES] = {0};
+    expected[ODDRAFISK_RECORDS] = records;
+    expected[ODDRAFISK_HEADERS] = headers;
+    expected[ODDRAFISK_BYTES] = bytes;
+    return same_numbers(answer, expected, ODDRAFISK_ENTRIES);
+}
+
+/* Calls oddrafisk_check and oddrafisk_read, which are to answer alike with 1 to 13 and then touch no table. Returns the
+ * number where they do. */
+static uint32_t refused(const uint8_t *bytes, size_t count, int64_t bytes_needed)
+{
+    tables t;
+    int64_t checked[ODDRAFISK_ENTRIES], read[ODDRAFISK_ENTRIES];
+    clear_tables(&t);
+    fill(checked, ODDRAFISK_ENTRIES, UNTOUCHED);
+    fill(read, ODDRAFISK_ENTRIES, UNTOUCHED);
+    uint32_t number = oddrafisk_check(bytes, count, checked);
+    EXPECT(oddrafisk_read(bytes, count, t.records, RECORD_ROOM, t.headers, HEADER_ROOM, read) == number);
+    EXPECT(counts_only(checked, 0, 0, bytes_needed));
+    EXPECT(counts_only(read, 0, 0, bytes_needed));
+    EXPECT(untouched_from(&t, 0, 0));
+    EXPECT(oddrafisk_is_canonical(bytes, count) == 0);
+    return number;
+}
+
+/* Document 01's sample: base 0 without records, base 7 with the one record "A", other fields 0; then three bytes. */
+enum { EMPTY_BYTES = 61, ONE_BYTES = 69, SAMPLE_BYTES = EMPTY_BYTES + ONE_BYTES };
+
+static const uint8_t SAMPLE[SAMPLE_BYTES + 3] = {
+    0x00, 0x00, 0x00, 0x00, 0x00, 0x00, 0x00, 0x00, 0x00, 0x00, 0x00, 0x31, 0x00, 0x00, 0x00, 0x00, 0x02, 0x59, 0x5F,
+    0xB7, 0xDD, 0x00, 0x00, 0x00, 0x00, 0x00, 0x00, 0x00, 0x00, 0x00, 0x00, 0x00, 0x00, 0x00, 0x00, 0x00, 0x00, 0x00,
+    0x00, 0x00, 0x00, 0x00, 0x00, 0x00, 0x00, 0x00, 0x00, 0x00, 0x00, 0x00, 0x00, 0x00, 0x00, 0x00, 0x00, 0x00, 0x00,
+    0x00, 0x00, 0x00, 0x00,
+    0x00, 0x00, 0x00, 0x00, 0x00, 0x00, 0x00, 0x07, 0x00, 0x00, 0x00, 0x39, 0x00, 0x00, 0x00, 0x00, 0x02, 0x53, 0x73,
+    0x36, 0xCE, 0x00, 0x00, 0x00, 0x00, 0x00, 0x00, 0x00, 0x00, 0x00, 0x00, 0x00, 0x00, 0x00, 0x00, 0x00, 0x00, 0x00,
+    0x00, 0x00, 0x00, 0x00, 0x00, 0x00, 0x00, 0x00, 0x00, 0x00, 0x00, 0x00, 0x00, 0x00, 0x00, 0x00, 0x00, 0x00, 0x00,
+    0x00, 0x00, 0x00, 0x01, 0x0E, 0x00, 0x00, 0x00, 0x01, 0x02, 0x41, 0x00,
+    0x00, 0x00, 0x00};
+
+static const uint8_t *const ONE = SAMPLE + EMPTY_BYTES;
+
+static void put_be(uint8_t *at, int bytes, uint32_t number)
+{
+    for (int i = 0; i < bytes; i++)
+        at[i] = (uint8_t)(number >> 8 * (bytes - 1 - i));
+}
+
+/* Puts the right checksum in its place. */
+static void repair(uint8_t *batch, size_t count)
+{
+    put_be(batch + 17, 4, oddrafisk_crc32c(batch + 21, count - 21));
+}
+
+/* A batch with these attributes, this count and this body; its other fields are 0. Returns how many bytes it has. */
+static size_t put_batch(uint8_t *batch, uint32_t attributes, int32_t count, const uint8_t *body, size_t length)
+{
+    memset(batch, 0, EMPTY_BYTES);
+    put_be(batch + 8, 4, (uint32_t)(EMPTY_BYTES - 12 + length));
+    batch[16] = 2;
+    put_be(batch + 21, 2, attributes);
+    put_be(batch + 57, 4, (uint32_t)count);
+    memcpy(batch + EMPTY_BYTES, body, length);
+    repair(batch, EMPTY_BYTES + length);
+    return EMPTY_BYTES + length;
+}
+
+static void test_constants(void)
+{
+    static const int places[] = {
+        ODDRAFISK_BASE_OFFSET, ODDRAFISK_PARTITION_LEADER_EPOCH, ODDRAFISK_LAST_OFFSET_DELTA,
+        ODDRAFISK_FIRST_TIMESTAMP, ODDRAFISK_MAX_TIMESTAMP, ODDRAFISK_PRODUCER_ID, ODDRAFISK_PRODUCER_EPOCH,
+        ODDRAFISK_BASE_SEQUENCE, ODDRAFISK_TIMESTAMP_TYPE, ODDRAFISK_IS_TRANSACTIONAL, ODDRAFISK_KIND,
+        ODDRAFISK_RECORDS, ODDRAFISK_HEADERS, ODDRAFISK_BYTES};
+    static const int reader[] = {
+        ODDRAFISK_ACCEPTED, ODDRAFISK_MORE_BYTES, ODDRAFISK_LENGTH_TOO_SMALL, ODDRAFISK_UNKNOWN_MAGIC,
+        ODDRAFISK_CHECKSUM_DIFFERS, ODDRAFISK_UNKNOWN_CODEC, ODDRAFISK_COMPRESSED, ODDRAFISK_WRONG_COUNT,
+        ODDRAFISK_PAST_END, ODDRAFISK_BEYOND_LIMITS, ODDRAFISK_NEGATIVE_LENGTH, ODDRAFISK_KEY_NOT_UTF8,
+        ODDRAFISK_UNKNOWN_CONTROL, ODDRAFISK_BYTES_LEFT, ODDRAFISK_NO_ROOM};
+    static const int writer[] = {ODDRAFISK_CODEC_ASKED, ODDRAFISK_WRONG_ROW, ODDRAFISK_ASKED_NOT_UTF8,
+                                 ODDRAFISK_TOO_LONG, ODDRAFISK_SHORT_OUTPUT};
+    static const int kinds[] = {ODDRAFISK_KIND_RECORDS, ODDRAFISK_KIND_ABORT, ODDRAFISK_KIND_COMMIT};
+    for (size_t i = 0; i < COUNT(places); i++)
+        EXPECT(places[i] == (int)i);
+    for (size_t i = 0; i < COUNT(reader); i++)
+        EXPECT(reader[i] == (int)i);
+    for (size_t i = 0; i < COUNT(writer); i++)
+        EXPECT(writer[i] == 20 + (int)i);
+    for (size_t i = 0; i < COUNT(kinds); i++)
+        EXPECT(kinds[i] == (int)i);
+    EXPECT(ODDRAFISK_ENTRIES == 16);
+    EXPECT(ODDRAFISK_RECORD_ROW == 8);
+    EXPECT(ODDRAFISK_HEADER_ROW == 4);
+}
+
+static void test_sample_read(void)
+{
+    static const int64_t row[ODDRAFISK_RECORD_ROW] = {0, 0, 0, -1, 67, 1, 0, 0};
+    tables t;
+    int64_t answer[ODDRAFISK_ENTRIES];
+    clear_tables(&t);
+    EXPECT(oddrafisk_check(SAMPLE, sizeof SAMPLE, answer) == ODDRAFISK_ACCEPTED);
+    EXPECT(counts_only(answer, 0, 0, EMPTY_BYTES));
+    EXPECT(oddrafisk_read(SAMPLE, sizeof SAMPLE, t.records, RECORD_ROOM, t.headers, HEADER_ROOM, answer) == 0);
+    EXPECT(counts_only(answer, 0, 0, EMPTY_BYTES));
+    EXPECT(untouched_from(&t, 0, 0));
+    EXPECT(oddrafisk_read(ONE, ONE_BYTES + 3, t.records, RECORD_ROOM, t.headers, HEADER_ROOM, answer) == 0);
+    EXPECT(answer[ODDRAFISK_BASE_OFFSET] == 7);
+    answer[ODDRAFISK_BASE_OFFSET] = 0;
+    EXPECT(counts_only(answer, 1, 0, ONE_BYTES));
+    EXPECT(same_numbers(t.records, row, ODDRAFISK_RECORD_ROW));
+    EXPECT(untouched_from(&t, ODDRAFISK_RECORD_ROW, 0));
+    EXPECT(ONE[t.records[4]] == 'A');
+    EXPECT(refused(SAMPLE + SAMPLE_BYTES, 3, 12) == ODDRAFISK_MORE_BYTES);
+}
+
+static void test_sample_written(void)
+{
+    static const int64_t row[ODDRAFISK_RECORD_ROW] = {0, 0, 0, -1, 0, 1, 0, 0};
+    static const int64_t no_headers[1] = {0};
+    static const uint8_t source[1] = {'A'};
+    int64_t batch[ODDRAFISK_ENTRIES] = {0}, length[1] = {UNTOUCHED};
+    uint8_t output[sizeof SAMPLE];
+    memset(output, 0, sizeof output);
+    EXPECT(oddrafisk_write(batch, 0, row, 0, no_headers, 0, source, 0, output, sizeof output, length) == 0);
+    EXPECT(length[0] == EMPTY_BYTES);
+    batch[ODDRAFISK_BASE_OFFSET] = 7;
+    batch[ODDRAFISK_RECORDS] = 1;
+    EXPECT(oddrafisk_write(batch, 0, row, COUNT(row), no_headers, 0, source, 1, output + EMPTY_BYTES,
+                           sizeof output - EMPTY_BYTES, length) == 0);
+    EXPECT(length[0] == ONE_BYTES);
+    EXPECT(memcmp(output, SAMPLE, sizeof SAMPLE) == 0);
+}
+
+static void test_truncated(void)
+{
+    for (size_t count = 0; count < ONE_BYTES; count++) {
+        int64_t needed = count < 12 ? 12 : count < 17 ? 17 : ONE_BYTES;
+        EXPECT(refused(ONE, count, needed) == ODDRAFISK_MORE_BYTES);
+    }
+}
+
+static void test_damaged(void)
+{
+    for (size_t place = 0; place < ONE_BYTES; place++) {
+        uint8_t bytes[ONE_BYTES];
+        int64_t answer[ODDRAFISK_ENTRIES];
+        memcpy(bytes, ONE, sizeof bytes);
+        bytes[place] ^= 1;
+        if (place < 8 || (12 <= place && place < 16))
+            EXPECT(oddrafisk_check(bytes, sizeof bytes, answer) == ODDRAFISK_ACCEPTED);
+        else if (place < 11)
+            EXPECT(oddrafisk_check(bytes, sizeof bytes, answer) == ODDRAFISK_MORE_BYTES);
+        else
+            EXPECT(refused(bytes, sizeof bytes, 0) == (place == 16 ? 3u : 4u));
+    }
+}
+
+/* An edit of the batch ONE; the checksum is then repaired, or left. */
+typedef struct {
+    uint32_t number;
+    size_t place;
+    uint8_t byte;
+    int repaired;
+} edit;
+
+static void test_edited(void)
+{
+    static const edit edits[] = {
+        {ODDRAFISK_LENGTH_TOO_SMALL, 11, 8, 0}, {ODDRAFISK_LENGTH_TOO_SMALL, 8, 0xFF, 0},
+        {ODDRAFISK_UNKNOWN_MAGIC, 16, 1, 0},    {ODDRAFISK_CHECKSUM_DIFFERS, 20, 0, 0},
+        {ODDRAFISK_UNKNOWN_CODEC, 22, 5, 1},    {ODDRAFISK_UNKNOWN_CODEC, 22, 7, 1},
+        {ODDRAFISK_COMPRESSED, 22, 1, 1},       {ODDRAFISK_COMPRESSED, 22, 4, 1},
+        {ODDRAFISK_UNKNOWN_CONTROL, 22, 32, 1}, {ODDRAFISK_WRONG_COUNT, 57, 0x80, 1},
+        {ODDRAFISK_BYTES_LEFT, 60, 0, 1},       {ODDRAFISK_PAST_END, 60, 2, 1}};
+    for (size_t i = 0; i < COUNT(edits); i++) {
+        uint8_t bytes[ONE_BYTES];
+        memcpy(bytes, ONE, sizeof bytes);
+        bytes[edits[i].place] = edits[i].byte;
+        if (edits[i].repaired)
+            repair(bytes, sizeof bytes);
+        EXPECT(refused(bytes, sizeof bytes, 0) == edits[i].number);
+    }
+}
+
+/* The body of a batch that has this count. */
+typedef struct {
+    uint32_t number;
+    uint32_t attributes;
+    int32_t count;
+    size_t length;
+    uint8_t bytes[12];
+} body;
+
+static void test_bodies(void)
+{
+    static const body bodies[] = {
+        {ODDRAFISK_WRONG_COUNT, 0, -2, 0, {0}},
+        {ODDRAFISK_WRONG_COUNT, 32, 0, 4, {0}},
+        {ODDRAFISK_PAST_END, 0, 1, 6, {0x0C, 0, 0, 0, 1, 1}},
+        {ODDRAFISK_PAST_END, 32, 1, 3, {0}},
+        {ODDRAFISK_BEYOND_LIMITS, 0, 1, 5, {0xFF, 0xFF, 0xFF, 0xFF, 0x10}},
+        {ODDRAFISK_NEGATIVE_LENGTH, 0, 1, 1, {1}},
+        {ODDRAFISK_NEGATIVE_LENGTH, 0, 1, 7, {0x0C, 0, 0, 0, 3, 1, 0}},
+        {ODDRAFISK_NEGATIVE_LENGTH, 0, 1, 9, {0x10, 0, 0, 0, 1, 1, 2, 0, 1}},
+        {ODDRAFISK_KEY_NOT_UTF8, 0, 1, 10, {0x12, 0, 0, 0, 1, 1, 2, 2, 0xC0, 0}},
+        {ODDRAFISK_UNKNOWN_CONTROL, 32, 1, 4, {0, 1, 0, 0}},
+        {ODDRAFISK_UNKNOWN_CONTROL, 32, 1, 4, {0, 0, 0, 2}},
+        {ODDRAFISK_BYTES_LEFT, 0, 1, 8, {0xC8, 1, 0, 0, 0, 1, 1, 0}},
+        {ODDRAFISK_BYTES_LEFT, 0, 1, 8, {0x0C, 0, 0, 0, 1, 1, 0, 0}},
+        {ODDRAFISK_BYTES_LEFT, 32, 1, 5, {0}}};
+    for (size_t i = 0; i < COUNT(bodies); i++) {
+        const body *b = &bodies[i];
+        uint8_t bytes[EMPTY_BYTES + sizeof b->bytes];
+        size_t count = put_batch(bytes, b->attributes, b->count, b->bytes, b->length);
+        uint32_t number = refused(bytes, count, 0);
+        EXPECT(number == b->number);
+        if (number != b->number)
+            printf("body %zu: %" PRIu32 ", not %" PRIu32 "\n", i, number, b->number);
+    }
+}
+
+/* Two records over a source: key "k", value null, header "a" = "bc"; and key empty, value "v", headers "" = "" and
+ * "d" = "e". */
+static const uint8_t SOURCE[] = {'k', 'v', 'a', 'b', 'c', 'd', 'e'};
+
+static const int64_t RECORDS[2 * ODDRAFISK_RECORD_ROW] = {
+    0, 0, 0, 1, 0, -1, 0, 1,
+    INT64_MIN, INT32_MIN, 7, 0, 1, 1, 1, 2};
+
+static const int64_t HEADERS[3 * ODDRAFISK_HEADER_ROW] = {2, 1, 3, 2, 0, 0, 0, 0, 5, 1, 6, 1};
+
+/* Every field at an end of its range; what is not looked at in writing has any number. */
+static const int64_t BATCH[ODDRAFISK_ENTRIES] = {
+    INT64_MIN, INT32_MAX, INT32_MIN, INT64_MAX, INT64_MIN, INT64_MAX, INT16_MIN, INT32_MAX,
+    1, 1, ODDRAFISK_KIND_RECORDS, 2, -5, -6, 0, 0};
+
+/* The fixed fields, the first record and the second, whose deltas have 10 and 5 bytes. */
+enum { BATCH_BYTES = EMPTY_BYTES + 13 + 27, OUTPUT_BYTES = BATCH_BYTES + 5 };
+
+/* Writes with the rows and the source above, and measures the same. Returns the number where both agree. */
+static uint32_t write_batch(const int64_t *batch, int64_t codec, const int64_t *records, const int64_t *headers,
+                            uint8_t *output, size_t output_count, int64_t *length)
+{
+    int64_t measured[1] = {UNTOUCHED};
+    length[0] = UNTOUCHED;
+    uint32_t number = oddrafisk_write(batch, codec, records, COUNT(RECORDS), headers, COUNT(HEADERS), SOURCE,
+                                      sizeof SOURCE, output, output_count, length);
+    uint32_t of_measure = oddrafisk_measure(batch, codec, records, COUNT(RECORDS), headers, COUNT(HEADERS), SOURCE,
+                                            sizeof SOURCE, measured);
+    EXPECT(of_measure == (number == ODDRAFISK_SHORT_OUTPUT ? 0 : number));
+    EXPECT(number == ODDRAFISK_SHORT_OUTPUT || measured[0] == length[0]);
+    return number;
+}
+
+/* Whether a part of the source and a part of the batch that was read show the same, or are both null. */
+static int same_span(const int64_t *asked, const int64_t *read, const uint8_t *bytes)
+{
+    if (asked[1] == -1)
+        return read[0] == 0 && read[1] == -1;
+    return read[1] == asked[1] && memcmp(SOURCE + asked[0], bytes + read[0], (size_t)asked[1]) == 0;
+}
+
+static void test_reads_back(void)
+{
+    uint8_t output[OUTPUT_BYTES];
+    int64_t length[1], answer[ODDRAFISK_ENTRIES], expected[ODDRAFISK_ENTRIES];
+    tables t;
+    memset(output, UNTOUCHED_BYTE, sizeof output);
+    clear_tables(&t);
+    EXPECT(write_batch(BATCH, 0, RECORDS, HEADERS, output, sizeof output, length) == 0);
+    EXPECT(length[0] == BATCH_BYTES);
+    EXPECT(untouched_bytes(output + BATCH_BYTES, sizeof output - BATCH_BYTES));
+    EXPECT(oddrafisk_is_canonical(output, BATCH_BYTES) == 1);
+    EXPECT(oddrafisk_read(output, sizeof output, t.records, RECORD_ROOM, t.headers, HEADER_ROOM, answer) == 0);
+    memcpy(expected, BATCH, sizeof expected);
+    expected[ODDRAFISK_HEADERS] = 3;
+    expected[ODDRAFISK_BYTES] = BATCH_BYTES;
+    EXPECT(same_numbers(answer, expected, ODDRAFISK_ENTRIES));
+    EXPECT(untouched_from(&t, COUNT(RECORDS), COUNT(HEADERS)));
+    for (size_t i = 0; i < COUNT(RECORDS); i += ODDRAFISK_RECORD_ROW) {
+        EXPECT(same_numbers(RECORDS + i, t.records + i, 2));
+        EXPECT(same_span(RECORDS + i + 2, t.records + i + 2, output));
+        EXPECT(same_span(RECORDS + i + 4, t.records + i + 4, output));
+        EXPECT(same_numbers(RECORDS + i + 6, t.records + i + 6, 2));
+    }
+    for (size_t i = 0; i < COUNT(HEADERS); i += 2)
+        EXPECT(same_span(HEADERS + i, t.headers + i, output));
+}
+
+/* Rooms are counted in numbers; a row that is not whole is none. */
+static void test_no_room(void)
+{
+    static const size_t rooms[][3] = {{16, 12, 0}, {23, 15, 0}, {15, 12, 1}, {16, 11, 1}, {0, 0, 1},
+                                      {8, 15, 1},  {31, 0, 1},  {17, 12, 0}, {16, 13, 0}};
+    uint8_t bytes[BATCH_BYTES];
+    int64_t length[1], answer[ODDRAFISK_ENTRIES];
+    EXPECT(write_batch(BATCH, 0, RECORDS, HEADERS, bytes, sizeof bytes, length) == 0);
+    for (size_t i = 0; i < COUNT(rooms); i++) {
+        tables t;
+        clear_tables(&t);
+        uint32_t number = oddrafisk_read(bytes, sizeof bytes, t.records, rooms[i][0], t.headers, rooms[i][1], answer);
+        if (rooms[i][2]) {
+            EXPECT(number == ODDRAFISK_NO_ROOM);
+            EXPECT(counts_only(answer, 2, 3, 0));
+            EXPECT(untouched_from(&t, 0, 0));
+        } else {
+            EXPECT(number == ODDRAFISK_ACCEPTED);
+            EXPECT(untouched_from(&t, COUNT(RECORDS), COUNT(HEADERS)));
+        }
+    }
+}
+
+/* Expects that the writer refuses with this number, and touches nothing. */
+static void expect_refused(uint32_t due, const int64_t *batch, int64_t codec, const int64_t *records,
+                           const int64_t *headers, size_t output_count)
+{
+    uint8_t output[OUTPUT_BYTES];
+    int64_t length[1];
+    memset(output, UNTOUCHED_BYTE, sizeof output);
+    uint32_t number = write_batch(batch, codec, records, headers, output, output_count, length);
+    EXPECT(number == due);
+    if (number != due)
+        printf("writer: %" PRIu32 ", not %" PRIu32 "\n", number, due);
+    EXPECT(length[0] == 0);
+    EXPECT(untouched_bytes(output, sizeof output));
+}
+
+/* A number in another place of what is asked. */
+typedef struct {
+    size_t place;
+    int64_t number;
+} change;
+
+static void test_codecs_and_outputs(void)
+{
+    static const int64_t codecs[] = {1, 4, 8, -1, INT64_MIN, INT64_MAX};
+    int64_t batch[ODDRAFISK_ENTRIES];
+    memcpy(batch, BATCH, sizeof batch);
+    batch[ODDRAFISK_KIND] = 3;
+    for (size_t i = 0; i < COUNT(codecs); i++) {
+        expect_refused(ODDRAFISK_CODEC_ASKED, BATCH, codecs[i], RECORDS, HEADERS, OUTPUT_BYTES);
+        expect_refused(ODDRAFISK_CODEC_ASKED, batch, codecs[i], RECORDS, HEADERS, OUTPUT_BYTES);
+    }
+    for (size_t count = 0; count < BATCH_BYTES; count++)
+        expect_refused(ODDRAFISK_SHORT_OUTPUT, BATCH, 0, RECORDS, HEADERS, count);
+}
+
+static void test_wrong_entries(void)
+{
+    static const change changes[] = {
+        {ODDRAFISK_PARTITION_LEADER_EPOCH, INT64_C(1) << 31}, {ODDRAFISK_PARTITION_LEADER_EPOCH, INT64_MIN},
+        {ODDRAFISK_LAST_OFFSET_DELTA, INT64_C(1) << 31},      {ODDRAFISK_LAST_OFFSET_DELTA, -(INT64_C(1) << 31) - 1},
+        {ODDRAFISK_PRODUCER_EPOCH, 32768},                    {ODDRAFISK_PRODUCER_EPOCH, -32769},
+        {ODDRAFISK_BASE_SEQUENCE, INT64_C(1) << 31},          {ODDRAFISK_BASE_SEQUENCE, -(INT64_C(1) << 31) - 1},
+        {ODDRAFISK_TIMESTAMP_TYPE, 2},                        {ODDRAFISK_TIMESTAMP_TYPE, -1},
+        {ODDRAFISK_IS_TRANSACTIONAL, 2},                      {ODDRAFISK_IS_TRANSACTIONAL, -1},
+        {ODDRAFISK_KIND, 3},                                  {ODDRAFISK_KIND, -1},
+        {ODDRAFISK_RECORDS, -1},                              {ODDRAFISK_RECORDS, INT64_MIN},
+        {ODDRAFISK_RECORDS, 3},                               {ODDRAFISK_RECORDS, INT64_MAX},
+        {ODDRAFISK_BYTES + 1, 1},                             {ODDRAFISK_ENTRIES - 1, -1}};
+    for (size_t i = 0; i < COUNT(changes); i++) {
+        int64_t batch[ODDRAFISK_ENTRIES];
+        memcpy(batch, BATCH, sizeof batch);
+        batch[changes[i].place] = changes[i].number;
+        expect_refused(ODDRAFISK_WRONG_ROW, batch, 0, RECORDS, HEADERS, OUTPUT_BYTES);
+    }
+}
+
+static void test_wrong_rows(void)
+{
+    static const change in_records[] = {
+        {1, INT64_C(1) << 31}, {1, -(INT64_C(1) << 31) - 1}, {2, -1}, {3, 8}, {3, -2}, {3, INT64_MAX}, {3, INT64_MIN},
+        {4, 1}, {5, -2}, {6, 1}, {6, -1}, {7, -1}, {7, 2}, {7, INT64_MAX}, {10, 8}, {12, 7}, {14, 0}, {14, 2}, {15, 3}};
+    static const change in_headers[] = {{0, -1}, {0, 7}, {1, -1}, {3, -1}, {3, 5}, {4, 8}, {11, -1}, {11, INT64_MAX}};
+    for (size_t i = 0; i < COUNT(in_records); i++) {
+        int64_t records[COUNT(RECORDS)];
+        memcpy(records, RECORDS, sizeof records);
+        records[in_records[i].place] = in_records[i].number;
+        expect_refused(ODDRAFISK_WRONG_ROW, BATCH, 0, records, HEADERS, OUTPUT_BYTES);
+    }
+    for (size_t i = 0; i < COUNT(in_headers); i++) {
+        int64_t headers[COUNT(HEADERS)];
+        memcpy(headers, HEADERS, sizeof headers);
+        headers[in_headers[i].place] = in_headers[i].number;
+        expect_refused(ODDRAFISK_WRONG_ROW, BATCH, 0, RECORDS, headers, OUTPUT_BYTES);
+    }
+}
+
+/* The only header key that is not empty is one byte of the source. */
+static void test_key_not_utf8(void)
+{
+    static const uint8_t source[] = {0xC0};
+    static const int64_t record[ODDRAFISK_RECORD_ROW] = {0, 0, 0, -1, 0, -1, 0, 1};
+    static const int64_t header[ODDRAFISK_HEADER_ROW] = {0, 1, 0, 0};
+    int64_t batch[ODDRAFISK_ENTRIES] = {0}, length[1] = {UNTOUCHED};
+    uint8_t output[OUTPUT_BYTES];
+    batch[ODDRAFISK_RECORDS] = 1;
+    memset(output, UNTOUCHED_BYTE, sizeof output);
+    EXPECT(oddrafisk_measure(batch, 0, record, COUNT(record), header, COUNT(header), source, 1, length)
+           == ODDRAFISK_ASKED_NOT_UTF8);
+    EXPECT(length[0] == 0);
+    length[0] = UNTOUCHED;
+    EXPECT(oddrafisk_write(batch, 0, record, COUNT(record), header, COUNT(header), source, 1, output, sizeof output,
+                           length) == ODDRAFISK_ASKED_NOT_UTF8);
+    EXPECT(length[0] == 0);
+    EXPECT(untouched_bytes(output, sizeof output));
+}
+
+/* Rows may show the same bytes, so that 2 GiB need not be at hand. batchLength is 49, then 2,047 records with a value
+ * of 2^20 bytes and 13 beside it, then one with 11 beside its value, which is as long as 2147483647 leaves it. */
+static void test_too_long(void)
+{
+    enum { RECORD_COUNT = 2048, VALUE = 1 << 20, LAST = VALUE - 1 - 49 - 2047 * 13 - 11 };
+    int64_t *records = (int64_t *)calloc(RECORD_COUNT * ODDRAFISK_RECORD_ROW, sizeof *records);
+    uint8_t *source = (uint8_t *)calloc(VALUE, 1);
+    int64_t batch[ODDRAFISK_ENTRIES] = {0}, length[1] = {UNTOUCHED};
+    uint8_t output[1] = {UNTOUCHED_BYTE};
+    if (!records || !source)
+        abort();
+    for (size_t i = 0; i < RECORD_COUNT; i++) {
+        records[i * ODDRAFISK_RECORD_ROW + 3] = -1;
+        records[i * ODDRAFISK_RECORD_ROW + 5] = VALUE;
+    }
+    batch[ODDRAFISK_RECORDS] = RECORD_COUNT;
+    int64_t *last = records + (RECORD_COUNT - 1) * ODDRAFISK_RECORD_ROW;
+    for (int64_t over = 0; over < 2; over++) {
+        last[5] = LAST + over;
+        uint32_t number = oddrafisk_measure(batch, 0, records, RECORD_COUNT * ODDRAFISK_RECORD_ROW, HEADERS, 0, source,
+                                            VALUE, length);
+        EXPECT(over ? number == ODDRAFISK_TOO_LONG : number == 0);
+        EXPECT(length[0] == (over ? 0 : INT64_C(2147483647) + 12));
+        number = oddrafisk_write(batch, 0, records, RECORD_COUNT * ODDRAFISK_RECORD_ROW, HEADERS, 0, source, VALUE,
+                                 output, sizeof output, length);
+        EXPECT(over ? number == ODDRAFISK_TOO_LONG : number == ODDRAFISK_SHORT_OUTPUT);
+        EXPECT(length[0] == 0 && output[0] == UNTOUCHED_BYTE);
+    }
+    free(records);
+    free(source);
+}
+
+/* A marker looks at no table and at no count of records. */
+static void test_markers(void)
+{
+    for (int64_t kind = ODDRAFISK_KIND_ABORT; kind <= ODDRAFISK_KIND_COMMIT; kind++) {
+        enum { MARKER_BYTES = 65 };
+        int64_t batch[ODDRAFISK_ENTRIES] = {0}, length[1], answer[ODDRAFISK_ENTRIES], wrong[COUNT(RECORDS)];
+        const uint8_t marker_body[4] = {0, 0, 0, (uint8_t)(kind - 1)};
+        uint8_t output[OUTPUT_BYTES], expected[MARKER_BYTES];
+        tables t;
+        batch[ODDRAFISK_KIND] = kind;
+        batch[ODDRAFISK_RECORDS] = -1;
+        fill(wrong, COUNT(wrong), -9);
+        clear_tables(&t);
+        EXPECT(write_batch(batch, 0, wrong, wrong, output, sizeof output, length) == 0);
+        EXPECT(length[0] == MARKER_BYTES);
+        EXPECT(put_batch(expected, 32, 1, marker_body, sizeof marker_body) == MARKER_BYTES);
+        EXPECT(memcmp(output, expected, MARKER_BYTES) == 0);
+        EXPECT(oddrafisk_is_canonical(output, MARKER_BYTES) == 1);
+        EXPECT(oddrafisk_read(output, sizeof output, t.records, 0, t.headers, 0, answer) == ODDRAFISK_ACCEPTED);
+        EXPECT(answer[ODDRAFISK_KIND] == kind);
+        answer[ODDRAFISK_KIND] = 0;
+        EXPECT(counts_only(answer, 0, 0, MARKER_BYTES));
+        EXPECT(untouched_from(&t, 0, 0));
+        expect_refused(ODDRAFISK_SHORT_OUTPUT, batch, 0, wrong, wrong, MARKER_BYTES - 1);
+    }
+}
+
+/* Batches that are accepted and that the writer would not give: count -1, a high attribute bit, a record attribute and
+ * two bytes for a 0. */
+static void test_canonical(void)
+{
+    static const body bodies[] = {
+        {1, 0, 1, 7, {0x0C, 0, 0, 0, 1, 1, 0}},
+        {0, 0, 1, 7, {0x0C, 1, 0, 0, 1, 1, 0}},
+        {0, 0, 1, 8, {0x0E, 0, 0x80, 0, 0, 1, 1, 0}},
+        {0, 0x40, 1, 7, {0x0C, 0, 0, 0, 1, 1, 0}},
+        {0, 0x8000, 1, 7, {0x0C, 0, 0, 0, 1, 1, 0}},
+        {1, 0, 0, 0, {0}},
+        {0, 0, -1, 0, {0}}};
+    EXPECT(oddrafisk_is_canonical(SAMPLE, EMPTY_BYTES) == 1);
+    EXPECT(oddrafisk_is_canonical(ONE, ONE_BYTES) == 1);
+    EXPECT(oddrafisk_is_canonical(ONE, ONE_BYTES + 1) == 0);
+    EXPECT(oddrafisk_is_canonical(SAMPLE, SAMPLE_BYTES) == 0);
+    for (size_t i = 0; i < COUNT(bodies); i++) {
+        const body *b = &bodies[i];
+        uint8_t bytes[EMPTY_BYTES + sizeof b->bytes];
+        int64_t answer[ODDRAFISK_ENTRIES];
+        size_t count = put_batch(bytes, b->attributes, b->count, b->bytes, b->length);
+        EXPECT(oddrafisk_check(bytes, count, answer) == ODDRAFISK_ACCEPTED);
+        EXPECT(oddrafisk_is_canonical(bytes, count) == b->number);
+    }
+}
+
+static void test_record_time(void)
+{
+    static const int64_t times[][6] = {
+        /* type, first, greatest, delta, whether there is a time, the time */
+        {0, 1000, 1000, -1, 1, 999},
+        {0, 1000, 1000, 0, 1, 1000},
+        {1, 1000, 1000, 0, 1, 1000},
+        {0, INT64_MAX, INT64_MAX, 1, 0, 0},
+        {0, INT64_MAX, INT64_MAX, 0, 1, INT64_MAX},
+        {0, INT64_MIN, INT64_MIN, -1, 0, 0},
+        {0, INT64_MIN, INT64_MIN, INT64_MAX, 1, -1},
+        {2, 1000, 1000, 0, 0, 0},
+        {-1, 1000, 1000, 0, 0, 0},
+        {INT64_MIN, 0, 0, 0, 0, 0}};
+    for (size_t i = 0; i < COUNT(times); i++) {
+        const int64_t *time = times[i];
+        int64_t answer[1] = {UNTOUCHED};
+        EXPECT(oddrafisk_record_time(time[0], time[1], time[2], time[3], answer) == (uint32_t)time[4]);
+        EXPECT(answer[0] == time[5]);
+    }
+}
+
+/* The usual check value, and RFC 3720's examples of 32 bytes. */
+static void test_crc32c(void)
+{
+    uint8_t bytes[32];
+    EXPECT(oddrafisk_crc32c((const uint8_t *)"123456789", 9) == UINT32_C(0xE3069283));
+    memset(bytes, 0, sizeof bytes);
+    EXPECT(oddrafisk_crc32c(bytes, sizeof bytes) == UINT32_C(0x8A9136AA));
+    memset(bytes, 0xFF, sizeof bytes);
+    EXPECT(oddrafisk_crc32c(bytes, sizeof bytes) == UINT32_C(0x62A8AB43));
+    for (uint8_t i = 0; i < 32; i++)
+        bytes[i] = i;
+    EXPECT(oddrafisk_crc32c(bytes, sizeof bytes) == UINT32_C(0x46DD794E));
+}
+
+/* Lengths of 0, at a pointer that is not null. */
+static void test_nothing_lent(void)
+{
+    int64_t number = UNTOUCHED, batch[ODDRAFISK_ENTRIES] = {0}, length[1], answer[ODDRAFISK_ENTRIES];
+    uint8_t byte = UNTOUCHED_BYTE;
+    EXPECT(oddrafisk_check(&byte, 0, answer) == ODDRAFISK_MORE_BYTES);
+    EXPECT(oddrafisk_read(&byte, 0, &number, 0, &number, 0, answer) == ODDRAFISK_MORE_BYTES);
+    EXPECT(counts_only(answer, 0, 0, 12));
+    EXPECT(oddrafisk_read(SAMPLE, EMPTY_BYTES, &number, 0, &number, 0, answer) == ODDRAFISK_ACCEPTED);
+    EXPECT(oddrafisk_is_canonical(&byte, 0) == 0);
+    EXPECT(oddrafisk_crc32c(&byte, 0) == 0);
+    EXPECT(oddrafisk_measure(batch, 0, &number, 0, &number, 0, &byte, 0, length) == 0);
+    EXPECT(length[0] == EMPTY_BYTES);
+    EXPECT(oddrafisk_write(batch, 0, &number, 0, &number, 0, SOURCE, 0, &byte, 0, length) == ODDRAFISK_SHORT_OUTPUT);
+    EXPECT(length[0] == 0);
+    EXPECT(number == UNTOUCHED && byte == UNTOUCHED_BYTE);
+}
+
+int main(void)
+{
+    test_constants();
+    test_sample_read();
+    test_sample_written();
+    test_truncated();
+    test_damaged();
+    test_edited();
+    test_bodies();
+    test_reads_back();
+    test_no_room();
+    test_codecs_and_outputs();
+    test_wrong_entries();
+    test_wrong_rows();
+    test_key_not_utf8();
+    test_too_long();
+    test_markers();
+    test_canonical();
+    test_record_time();
+    test_crc32c();
+    test_nothing_lent();
+    printf("%u checks, %u failed\n", made, failed);
+    return failed != 0;
+}

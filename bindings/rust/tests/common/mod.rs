@@ -1,0 +1,29 @@
+//! Batches put together from bytes, by document 01's table and not by the writer.
+
+/// The checksum of places 21 and on, put where it belongs.
+pub fn repaired(mut bytes: Vec<u8>) -> Vec<u8> {
+    let checksum = oddrafisk::crc32c(&bytes[21..]);
+    bytes[17..21].copy_from_slice(&checksum.to_be_bytes());
+    bytes
+}
+
+/// A batch with these attributes, this count and this body; its other fields are 0.
+pub fn batch_with_body(attributes: u16, count: i32, body: &[u8]) -> Vec<u8> {
+    let mut bytes = vec![0; 61];
+    bytes[8..12].copy_from_slice(&(49 + body.len() as i32).to_be_bytes());
+    bytes[16] = 2;
+    bytes[21..23].copy_from_slice(&attributes.to_be_bytes());
+    bytes[57..61].copy_from_slice(&count.to_be_bytes());
+    bytes.extend(body);
+    repaired(bytes)
+}
+
+/// The batch of the one record that has no key and the value "A".
+pub fn one_record() -> Vec<u8> {
+    batch_with_body(0, 1, &[0x0E, 0, 0, 0, 1, 2, 0x41, 0])
+}
+
+/// A control batch of this type.
+pub fn marker(control_type: u8) -> Vec<u8> {
+    batch_with_body(0x20, 1, &[0, 0, 0, control_type])
+}

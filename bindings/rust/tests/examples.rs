@@ -1,0 +1,201 @@
+//! The example programs: what `write_log` writes, `balancer` sums up as expected. `cargo test`
+//! builds both programs beside the tests.
+
+use std::path::{Path, PathBuf};
+use std::process::{Command, Output};
+use std::{env, fs};
+
+use oddrafisk::{BatchBuilder, Fields, Kind, Log, Marker, NewRecord};
+
+fn program(name: &str) -> Command {
+    let test = env::current_exe().unwrap();
+    let programs = test.parent().unwrap().parent().unwrap().join("examples");
+    Command::new(programs.join(name))
+}
+
+fn scratch(name: &str) -> PathBuf {
+    Path::new(env!("CARGO_TARGET_TMPDIR")).join(name)
+}
+
+fn write_log(file: &Path, cookies: usize) {
+    let status = program("write_log")
+        .arg(file)
+        .arg(cookies.to_string())
+        .status()
+        .unwrap();
+    assert!(status.success());
+}
+
+/// What `balancer` prints, and whether it succeeds.
+fn balancer(file: &Path) -> (String, bool) {
+    let Output { status, stdout, .. } = program("balancer").arg(file).output().unwrap();
+    (String::from_utf8(stdout).unwrap(), status.success())
+}
+
+fn balancer_on(bytes: &[u8], name: &str) -> (String, bool) {
+    let file = scratch(name);
+    fs::write(&file, bytes).unwrap();
+    balancer(&file)
+}
+
+/// What the documentation of `write_log` says of so many cookies, cookie by cookie.
+fn expected(cookies: usize, bytes: usize) -> String {
+    let every = |n: usize| cookies.div_ceil(n);
+    let batches = |n: usize| every(n).div_ceil(100);
+    let mut servers = [0; 6];
+    for cookie in (0..cookies).filter(|cookie| cookie % 10 != 0) {
+        let moved = usize::from(cookie % 4 == 0);
+        servers[(cookie + moved) % 6] += 1;
+    }
+    let mut text = format!(
+        "batches {}\nrecords {}\nrecords without a cookie 0\nrecords aborted {}\n\
+         records undecided 0\ncookies pinned {}\ncookies withdrawn {}\n",
+        batches(1) + batches(4) + 1 + batches(5) + 1 + batches(10),
+        every(1) + every(4) + every(5) + every(10),
+        every(5),
+        cookies - every(10),
+        every(10),
+    );
+    for (server, cookies) in servers
+        .into_iter()
+        .enumerate()
+        .filter(|(_, cookies)| 0 < *cookies)
+    {
+        text += &format!("rail-node-{:02} {cookies}\n", server + 1);
+    }
+    text + &format!("end at {bytes}\n")
+}
+
+#[test]
+fn written_logs_are_summed_up() {
+    for cookies in [0, 1, 99, 100, 101, 12345] {
+        let file = scratch("written.log");
+        write_log(&file, cookies);
+        let bytes = fs::metadata(&file).unwrap().len() as usize;
+        assert_eq!(
+            balancer(&file),
+            (expected(cookies, bytes), true),
+            "{cookies} cookies"
+        );
+    }
+}
+
+#[test]
+fn written_offsets_and_times_run_on() {
+    let file = scratch("offsets.log");
+    write_log(&file, 250);
+    let bytes = fs::read(&file).unwrap();
+    let (mut next_offset, mut last_time) = (0, 0);
+    for batch in Log::new(&bytes).map(Result::unwrap) {
+        let fields = batch.fields();
+        assert_eq!(fields.base_offset, next_offset);
+        next_offset += i64::from(fields.last_offset_delta) + 1;
+        assert!(last_time < fields.first_timestamp);
+        last_time = fields.max_timestamp;
+        let last = batch.records().next_back().map(|r| (r.offset(), r.time()));
+        if let Some(last) = last {
+            assert_eq!(last, (Some(next_offset - 1), Some(last_time)));
+        }
+        assert!(oddrafisk::is_canonical(batch.bytes()));
+    }
+}
+
+/// Worked out by hand from the records of crates/pinning.
+#[test]
+fn sample_is_summed_up() {
+    let sample = Path::new(env!("CARGO_MANIFEST_DIR")).join("../../samples/pinning.log");
+    let summary = "batches 12\nrecords 24\nrecords without a cookie 0\nrecords aborted 2\n\
+                   records undecided 0\ncookies pinned 8\ncookies withdrawn 2\n\
+                   rail-node-01 2\nrail-node-02 1\nrail-node-04 1\nrail-node-05 2\nrail-node-06 2\n\
+                   end at 1888\n";
+    assert_eq!(balancer(&sample), (summary.to_string(), true));
+}
+
+#[test]
+fn transaction_without_a_marker_is_undecided() {
+    let file = scratch("undecided.log");
+    write_log(&file, 30);
+    let bytes = fs::read(&file).unwrap();
+    let mut log = Log::new(&bytes);
+    let before_marker = log
+        .by_ref()
+        .map(Result::unwrap)
+        .take_while(|batch| batch.kind() == Kind::Records)
+        .map(|batch| batch.bytes().len())
+        .sum();
+    let (summary, success) = balancer_on(&bytes[..before_marker], "undecided.log");
+    assert!(success);
+    assert!(
+        summary.contains("records undecided 8\ncookies pinned 30\n"),
+        "{summary}"
+    );
+    assert!(summary.contains("rail-node-01 5\n"), "{summary}");
+}
+
+#[test]
+fn log_that_stops_says_where_and_why() {
+    let file = scratch("stopped.log");
+    write_log(&file, 150);
+    let mut bytes = fs::read(&file).unwrap();
+    let second = Log::new(&bytes).next().unwrap().unwrap().bytes().len();
+    let (summary, success) = balancer_on(&bytes[..second + 5], "stopped.log");
+    assert!(!success);
+    assert!(summary.ends_with(&format!(
+        "stop at {second}: 12 bytes are needed (number 1)\n"
+    )));
+    assert!(summary.contains("cookies pinned 100\n"), "{summary}");
+    bytes[second + 100] ^= 1;
+    let (summary, success) = balancer_on(&bytes, "stopped.log");
+    assert!(!success);
+    assert!(summary.ends_with(&format!(
+        "stop at {second}: the checksum differs (number 4)\n"
+    )));
+}
+
+/// A cookie is moved in a transaction, then by another producer, and then the transaction is
+/// committed.
+#[test]
+fn place_in_the_log_decides_and_not_the_commit() {
+    let producer = Fields {
+        producer_id: 7,
+        is_transactional: true,
+        ..Fields::default()
+    };
+    let pinned = |fields, key: Option<&[u8]>, server: &str| {
+        let record = NewRecord {
+            key,
+            value: Some(server.as_bytes()),
+            ..NewRecord::default()
+        };
+        BatchBuilder::new(fields).record(record).to_vec().unwrap()
+    };
+    let cookie = Some(b"cookie".as_slice());
+    let mut bytes = pinned(producer, cookie, "first");
+    bytes.extend(pinned(Fields::default(), cookie, "second"));
+    bytes.extend(pinned(Fields::default(), None, "nobody's"));
+    Marker::Commit.append_to(&producer, &mut bytes);
+    let (summary, _) = balancer_on(&bytes, "order.log");
+    assert!(
+        summary.contains("records without a cookie 1\n"),
+        "{summary}"
+    );
+    assert!(
+        summary.contains("cookies pinned 1\ncookies withdrawn 0\nsecond 1\nend"),
+        "{summary}"
+    );
+}
+
+#[test]
+fn balancer_needs_a_file() {
+    for mut command in [program("balancer"), program("write_log")] {
+        assert_eq!(command.output().unwrap().status.code(), Some(2));
+    }
+    let missing = program("balancer")
+        .arg(scratch("missing.log"))
+        .output()
+        .unwrap();
+    assert_eq!(missing.status.code(), Some(2));
+    assert!(String::from_utf8(missing.stderr)
+        .unwrap()
+        .contains("missing.log"));
+}

@@ -1,0 +1,303 @@
+//! Reading: document 01's sample, every refusal, views and logs.
+
+mod common;
+
+use common::{batch_with_body, marker, one_record, repaired};
+use oddrafisk::{
+    check, crc32c, is_canonical, record_time, Batch, BatchBuilder, Fields, Kind, Log, LogError,
+    Marker, NewRecord, ReadError, Reader, Refusal, TimestampType,
+};
+
+/// Two batches, base 0 without records and base 7 with the one record "A", as document 01 lists
+/// them.
+fn sample() -> Vec<u8> {
+    let mut bytes = BatchBuilder::default().to_vec().unwrap();
+    let fields = Fields {
+        base_offset: 7,
+        ..Fields::default()
+    };
+    let record = NewRecord {
+        value: Some(b"A"),
+        ..NewRecord::default()
+    };
+    BatchBuilder::new(fields)
+        .record(record)
+        .append_to(&mut bytes)
+        .unwrap();
+    bytes
+}
+
+#[test]
+fn sample_is_read_batch_by_batch() {
+    let bytes = sample();
+    let mut log = Log::new(&bytes);
+    let empty = log.next().unwrap().unwrap();
+    assert_eq!(
+        (empty.fields().base_offset, empty.kind()),
+        (0, Kind::Records)
+    );
+    assert_eq!((empty.bytes(), empty.records().len()), (&bytes[..61], 0));
+    assert_eq!(log.place(), 61);
+    let batch = log.next().unwrap().unwrap();
+    assert_eq!(
+        (batch.fields().base_offset, batch.bytes()),
+        (7, &bytes[61..])
+    );
+    let record = batch.records().next().unwrap();
+    assert_eq!(
+        (record.key(), record.value()),
+        (None, Some(b"A".as_slice()))
+    );
+    assert_eq!((record.offset(), record.headers().len()), (Some(7), 0));
+    assert!(log.next().is_none());
+    assert_eq!(log.place(), 130);
+}
+
+#[test]
+fn cut_off_log_names_the_bytes_needed() {
+    let bytes = sample();
+    for (length, place, needed) in [(3, 0, 12), (16, 0, 17), (60, 0, 61), (61 + 68, 61, 69)] {
+        let error = Log::new(&bytes[..length]).find_map(Result::err).unwrap();
+        assert_eq!(
+            error,
+            LogError {
+                place,
+                reason: ReadError::MoreBytes { needed }
+            }
+        );
+        assert_eq!(
+            error.to_string(),
+            format!("at {place}: {needed} bytes are needed (number 1)")
+        );
+        assert_eq!(error.reason.number(), 1);
+    }
+}
+
+#[test]
+fn log_ends_with_the_first_error() {
+    let mut bytes = sample();
+    bytes[60] ^= 1;
+    let mut log = Log::new(&bytes);
+    let error = log.next().unwrap().unwrap_err();
+    assert_eq!(
+        error,
+        LogError {
+            place: 0,
+            reason: Refusal::ChecksumDiffers.into()
+        }
+    );
+    assert_eq!(error.to_string(), "at 0: the checksum differs (number 4)");
+    assert!(log.next().is_none());
+    assert_eq!(log.place(), 0);
+    assert!(format!("{log:?}").contains("stopped: true"));
+}
+
+/// For each refusal a smallest batch that has this fault alone; the checksum is right but for 4.
+fn refused() -> [(Refusal, u32, Vec<u8>); 12] {
+    let edited = |place: usize, value: u8| {
+        let mut bytes = one_record();
+        bytes[place] = value;
+        bytes
+    };
+    let with_body = |count, body: &[u8]| batch_with_body(0, count, body);
+    let header_key_c0 = [0x14, 0, 0, 0, 1, 1, 2, 2, 0xC0, 0, 0];
+    [
+        (Refusal::LengthTooSmall, 2, edited(11, 8)),
+        (Refusal::UnknownMagic, 3, edited(16, 1)),
+        (Refusal::ChecksumDiffers, 4, edited(20, 0)),
+        (Refusal::UnknownCodec, 5, repaired(edited(22, 5))),
+        (Refusal::Compressed, 6, repaired(edited(22, 4))),
+        (Refusal::WrongCount, 7, with_body(-2, &[])),
+        (Refusal::PastEnd, 8, with_body(1, &[0x0C, 0, 0, 0, 1, 1])),
+        (
+            Refusal::BeyondLimits,
+            9,
+            with_body(1, &[0xFF, 0xFF, 0xFF, 0xFF, 0x10]),
+        ),
+        (
+            Refusal::NegativeLength,
+            10,
+            with_body(1, &[0x0C, 0, 0, 0, 3, 1, 0]),
+        ),
+        (Refusal::KeyNotUtf8, 11, with_body(1, &header_key_c0)),
+        (Refusal::UnknownControl, 12, marker(2)),
+        (Refusal::BytesLeft, 13, with_body(0, &[0])),
+    ]
+}
+
+#[test]
+fn every_refusal_is_met() {
+    for (refusal, number, bytes) in refused() {
+        assert_eq!(refusal.number(), number);
+        let error = ReadError::Refused(refusal);
+        assert_eq!(check(&bytes), Err(error), "{refusal:?}");
+        assert_eq!(Batch::read(&bytes).unwrap_err(), error);
+        assert_eq!(Reader::new().read(&bytes).unwrap_err(), error);
+        assert_eq!(error.number(), number);
+        assert_eq!(error.to_string(), refusal.to_string());
+        assert!(refusal.to_string().ends_with(&format!("(number {number})")));
+        assert!(!is_canonical(&bytes));
+    }
+}
+
+#[test]
+fn refusals_have_words_of_their_own() {
+    let mut words: Vec<String> = refused()
+        .iter()
+        .map(|(refusal, ..)| refusal.to_string())
+        .collect();
+    words.sort();
+    words.dedup();
+    assert_eq!(words.len(), 12);
+}
+
+#[test]
+fn check_tells_all_but_the_records() {
+    let bytes = one_record();
+    let outline = check(&bytes).unwrap();
+    assert_eq!(
+        (outline.records, outline.headers, outline.bytes),
+        (1, 0, bytes.len())
+    );
+    assert_eq!(outline.kind, Kind::Records);
+    assert_eq!(outline.fields, *Batch::read(&bytes).unwrap().fields());
+    let bytes = marker(1);
+    let outline = check(&bytes).unwrap();
+    assert_eq!(outline.kind, Kind::Marker(Marker::Commit));
+    assert_eq!(
+        (outline.records, outline.headers, outline.bytes),
+        (0, 0, 65)
+    );
+    assert_eq!(check(&marker(0)).unwrap().kind, Kind::Marker(Marker::Abort));
+}
+
+#[test]
+fn null_and_empty_differ() {
+    let empty = NewRecord {
+        key: Some(b""),
+        value: Some(b""),
+        ..NewRecord::default()
+    };
+    let mut builder = BatchBuilder::default();
+    let bytes = builder
+        .record(NewRecord::default())
+        .record(empty)
+        .to_vec()
+        .unwrap();
+    let batch = Batch::read(&bytes).unwrap();
+    let shown: Vec<_> = batch.records().map(|r| (r.key(), r.value())).collect();
+    assert_eq!(shown, [(None, None), (Some(&b""[..]), Some(&b""[..]))]);
+}
+
+#[test]
+fn keys_and_values_outlive_batches() {
+    let bytes = sample();
+    let mut values: Vec<&[u8]> = Vec::new();
+    for batch in Log::new(&bytes) {
+        values.extend(batch.unwrap().records().filter_map(|record| record.value()));
+    }
+    assert_eq!(values, [b"A"]);
+    assert!(std::ptr::eq(values[0], &bytes[128..129]));
+}
+
+#[test]
+fn reader_serves_batches_of_any_size() {
+    let mut reader = Reader::new();
+    for records in [0, 3, 1, 200, 2] {
+        let mut builder = BatchBuilder::default();
+        for i in 0..records {
+            let value = i.to_string();
+            builder.record(NewRecord {
+                offset_delta: i,
+                value: Some(value.as_bytes()),
+                headers: &[("number", value.as_bytes()), ("", b"")],
+                ..NewRecord::default()
+            });
+        }
+        let bytes = builder.to_vec().unwrap();
+        let batch = reader.read(&bytes).unwrap();
+        assert_eq!(batch.records().len(), records as usize);
+        for (i, record) in (0..records).zip(batch.records()) {
+            let value = i.to_string();
+            assert_eq!(record.value(), Some(value.as_bytes()));
+            let headers: Vec<_> = record.headers().map(|h| (h.key(), h.value())).collect();
+            assert_eq!(headers, [("number", value.as_bytes()), ("", b"")]);
+        }
+    }
+    assert_eq!(format!("{reader:?}"), "Reader { .. }");
+}
+
+#[test]
+fn headers_have_keys_as_text_and_as_bytes() {
+    let record = NewRecord {
+        headers: &[("zöne", b"north")],
+        ..NewRecord::default()
+    };
+    let bytes = BatchBuilder::default().record(record).to_vec().unwrap();
+    let batch = Batch::read(&bytes).unwrap();
+    let header = batch.records().next().unwrap().headers().next().unwrap();
+    assert_eq!(
+        (header.key(), header.value()),
+        ("zöne", b"north".as_slice())
+    );
+    assert_eq!(header.key_bytes(), "zöne".as_bytes());
+}
+
+#[test]
+fn offsets_and_times_that_leave_64_bits_are_none() {
+    let fields = Fields {
+        base_offset: i64::MAX - 1,
+        first_timestamp: i64::MIN + 1,
+        ..Fields::default()
+    };
+    let mut builder = BatchBuilder::new(fields);
+    for delta in [1, 2] {
+        builder.record(NewRecord {
+            offset_delta: delta,
+            timestamp_delta: -i64::from(delta),
+            ..NewRecord::default()
+        });
+    }
+    let bytes = builder.to_vec().unwrap();
+    let batch = Batch::read(&bytes).unwrap();
+    let shown: Vec<_> = batch.records().map(|r| (r.offset(), r.time())).collect();
+    assert_eq!(shown, [(Some(i64::MAX), Some(i64::MIN)), (None, None)]);
+    let deltas: Vec<_> = batch
+        .records()
+        .map(|r| (r.offset_delta(), r.timestamp_delta()))
+        .collect();
+    assert_eq!(deltas, [(1, -1), (2, -2)]);
+}
+
+#[test]
+fn record_times_are_the_library_s() {
+    for timestamp_type in [TimestampType::CreateTime, TimestampType::LogAppendTime] {
+        assert_eq!(record_time(timestamp_type, 1000, 1000, 0), Some(1000));
+    }
+    assert_eq!(
+        record_time(TimestampType::CreateTime, 1000, 1000, -1),
+        Some(999)
+    );
+    assert_eq!(record_time(TimestampType::CreateTime, i64::MAX, 0, 1), None);
+    assert_eq!(
+        record_time(TimestampType::CreateTime, i64::MIN, 0, -1),
+        None
+    );
+}
+
+#[test]
+fn debug_shows_records_and_no_tables() {
+    let bytes = sample();
+    let batch = Batch::read(&bytes[61..]).unwrap();
+    assert!(format!("{batch:?}").ends_with("bytes: 69 }, .. }"));
+    let record = batch.records().next().unwrap();
+    assert!(format!("{record:?}").ends_with("key: None, value: Some([65]), headers: [] }"));
+}
+
+#[test]
+fn empty_input_has_answers() {
+    assert_eq!(check(&[]), Err(ReadError::MoreBytes { needed: 12 }));
+    assert!(Log::new(&[]).next().is_none());
+    assert!(!is_canonical(&[]));
+    assert_eq!(crc32c(&[]), 0);
+}
