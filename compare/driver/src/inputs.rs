@@ -1,0 +1,244 @@
+//! The inputs that are compared: all of a kind where that is possible, and random ones.
+
+use crate::damage::{change_bytes, change_part};
+use crate::random::Random;
+use crate::shape::{
+    repair, repair_crc, varint, Batch, Body, Coded, Form, Record, Span, BATCH_LENGTH, BODY,
+    CONTROL, LOG_APPEND, TRANSACTIONAL,
+};
+
+/// A group of inputs, each of which is handed on.
+pub type Group = fn(&mut dyn FnMut(&[u8]));
+
+/// The groups that have all of their kind.
+pub const GROUPS: [(&str, Group); 10] = [
+    ("strings of 0 to 3 bytes", short_strings),
+    ("small batches, every beginning", beginnings),
+    ("small batches, every batchLength from -20 to 120", batch_lengths),
+    ("small batches, every change of a byte", changed_bytes),
+    ("small batches, every change of two bytes of the body", changed_pairs),
+    ("bodies of 0 to 2 bytes", short_bodies),
+    ("attributes and counts", attributes),
+    ("markers", markers),
+    ("header keys", header_keys),
+    ("numbers of varying length", numbers),
+];
+
+fn record_with_header(key: &[u8], value: &[u8]) -> Record {
+    let header = [key, value].map(|bytes| Span::of(Some(bytes.to_vec())));
+    Record { headers: vec![header], ..Record::of(Some(b"ab"), None) }
+}
+
+/// Batches of every kind, as short as they can be.
+pub fn small() -> Vec<Batch> {
+    let smallest = Record::of(None, None);
+    let mut long_numbers = Record::of(Some(b""), Some(b"v"));
+    long_numbers.timestamp_delta = (-1, Coded::Right(2));
+    long_numbers.value.length = Coded::Right(1);
+    long_numbers.attributes = 0xFF;
+    vec![
+        Batch::of(Vec::new()),
+        Batch { count: Some(-1), ..Batch::of(Vec::new()) },
+        Batch::of(vec![smallest.clone()]),
+        Batch::of(vec![Record::of(None, Some(b"A"))]),
+        Batch::of(vec![record_with_header(b"", b"")]),
+        Batch::of(vec![record_with_header("\u{E9}".as_bytes(), b"v")]),
+        Batch::of(vec![smallest, Record::of(Some(b"k"), Some(b""))]),
+        Batch { attributes: LOG_APPEND | TRANSACTIONAL | 0x40, ..Batch::of(vec![long_numbers]) },
+        Batch::marker(0, 0),
+        Batch::marker(0, 1),
+    ]
+}
+
+fn short_strings(each: &mut dyn FnMut(&[u8])) {
+    strings(3, each);
+}
+
+/// All strings of so many bytes and fewer.
+fn strings(most: usize, each: &mut dyn FnMut(&[u8])) {
+    for length in 0..=most {
+        for number in 0u32..1 << (8 * length) {
+            each(&number.to_be_bytes()[4 - length..]);
+        }
+    }
+}
+
+/// As they are, and as batches with a right length and checksum.
+fn beginnings(each: &mut dyn FnMut(&[u8])) {
+    for batch in small() {
+        let bytes = batch.bytes();
+        for end in 0..=bytes.len() {
+            each(&bytes[..end]);
+            let mut cut = bytes[..end].to_vec();
+            repair(&mut cut);
+            each(&cut);
+        }
+    }
+}
+
+/// Every length about those that batches have, and the greatest and the least, with bytes enough
+/// for most and without.
+fn batch_lengths(each: &mut dyn FnMut(&[u8])) {
+    let edges = [i32::MIN, i32::MIN + 1, i32::MAX - 1, i32::MAX];
+    for batch in small() {
+        let right = batch.bytes();
+        for length in (-20..=120).chain(edges) {
+            let mut bytes = right.clone();
+            bytes[BATCH_LENGTH..BATCH_LENGTH + 4].copy_from_slice(&length.to_be_bytes());
+            repair_crc(&mut bytes);
+            each(&bytes);
+            bytes.extend([0; 60]);
+            repair_crc(&mut bytes);
+            each(&bytes);
+        }
+    }
+}
+
+fn changed_bytes(each: &mut dyn FnMut(&[u8])) {
+    for batch in small() {
+        let right = batch.bytes();
+        for place in 0..right.len() {
+            for byte in (0..=255).filter(|&byte| byte != right[place]) {
+                let mut bytes = right.clone();
+                bytes[place] = byte;
+                each(&bytes);
+                if !(BATCH_LENGTH..BATCH_LENGTH + 4).contains(&place) {
+                    repair(&mut bytes);
+                    each(&bytes);
+                }
+            }
+        }
+    }
+}
+
+fn changed_pairs(each: &mut dyn FnMut(&[u8])) {
+    for batch in small() {
+        let right = batch.bytes();
+        for place in BODY..right.len().saturating_sub(1) {
+            for pair in 0..=u16::MAX {
+                let mut bytes = right.clone();
+                bytes[place..place + 2].copy_from_slice(&pair.to_be_bytes());
+                repair(&mut bytes);
+                each(&bytes);
+            }
+        }
+    }
+}
+
+fn short_bodies(each: &mut dyn FnMut(&[u8])) {
+    for attributes in [0, CONTROL] {
+        for count in [-1, 0, 1, 2] {
+            let batch = Batch { attributes, count: Some(count), ..Batch::of(Vec::new()) };
+            strings(2, &mut |body| {
+                each(&Batch { left: body.to_vec(), ..batch.clone() }.bytes());
+            });
+        }
+    }
+}
+
+fn attributes(each: &mut dyn FnMut(&[u8])) {
+    let bodies = [
+        Body::Records(Vec::new()),
+        Body::Records(vec![Record::of(None, None)]),
+        Body::Marker([0, 1]),
+    ];
+    for body in bodies {
+        for count in [i32::MIN, -2, -1, 0, 1, 2] {
+            let mut batch = Batch { count: Some(count), ..Batch::of(Vec::new()) };
+            batch.body = body.clone();
+            for attributes in i16::MIN..=i16::MAX {
+                batch.attributes = attributes;
+                each(&batch.bytes());
+            }
+        }
+    }
+}
+
+fn markers(each: &mut dyn FnMut(&[u8])) {
+    for number in i16::MIN..=i16::MAX {
+        for numbers in [[number, 0], [number, 1], [0, number], [1, number]] {
+            each(&Batch::marker(numbers[0], numbers[1]).bytes());
+        }
+    }
+}
+
+/// All keys of up to two bytes, and longer ones with every lead and every second byte.
+fn header_keys(each: &mut dyn FnMut(&[u8])) {
+    const LATER: [u8; 8] = [0x00, 0x7F, 0x80, 0x8F, 0x9F, 0xBF, 0xC0, 0xFF];
+    let mut key = |key: &[u8]| each(&Batch::of(vec![record_with_header(key, b"")]).bytes());
+    strings(2, &mut key);
+    for lead in 0xC0..=0xFF {
+        for second in 0..=0xFF {
+            for third in LATER {
+                key(&[lead, second, third]);
+                for fourth in LATER {
+                    key(&[lead, second, third, fourth]);
+                }
+            }
+        }
+    }
+}
+
+/// Numbers at both sides of every length, and those that ought to be there, each in every number of
+/// bytes up to eleven, at every place that has one.
+fn numbers(each: &mut dyn FnMut(&[u8])) {
+    let mut values = vec![0, i64::MIN, i64::MAX];
+    for power in (6..63).step_by(7).chain([31]) {
+        let edge = 1i64 << power;
+        values.extend([edge - 1, edge, -edge, -edge - 1]);
+    }
+    for value in values {
+        for longer in 0..=11 - varint(value, 0).len() {
+            at_every_place(&Coded::Raw(varint(value, longer)), each);
+        }
+    }
+    for longer in 0..=10 {
+        at_every_place(&Coded::Right(longer), each);
+    }
+}
+
+/// The number at each of its places in a record with a header, and in the smallest record.
+fn at_every_place(number: &Coded, each: &mut dyn FnMut(&[u8])) {
+    let header = record_with_header(b"k", b"v");
+    let smallest = Record::of(None, None);
+    for (record, places) in [(header, 8), (smallest, 6)] {
+        for place in 0..places {
+            let mut record = record.clone();
+            *number_at(place, &mut record) = number.clone();
+            each(&Batch::of(vec![record]).bytes());
+        }
+    }
+}
+
+fn number_at(place: usize, record: &mut Record) -> &mut Coded {
+    match place {
+        0 => &mut record.length,
+        1 => &mut record.timestamp_delta.1,
+        2 => &mut record.offset_delta.1,
+        3 => &mut record.key.length,
+        4 => &mut record.value.length,
+        5 => &mut record.header_count,
+        _ => &mut record.headers[0][place - 6].length,
+    }
+}
+
+/// A random input: a batch that is accepted, one with faults, or what is left of one.
+pub fn random(random: &mut Random) -> Vec<u8> {
+    let form = random.pick(&[Form::Canonical, Form::Free]);
+    let mut batch = form.batch(random);
+    let faults = random.pick(&[0, 0, 1, 1, 1, 1, 1, 2]);
+    for _ in 0..faults {
+        change_part(&mut batch, random);
+    }
+    let mut bytes = batch.bytes();
+    match random.below(12) {
+        0..=2 => change_bytes(&mut bytes, random),
+        3..=6 => {
+            let size = 1 + random.below(20);
+            bytes.extend(random.bytes(size));
+        }
+        7 => bytes.truncate(random.below(bytes.len())),
+        _ => {}
+    }
+    bytes
+}
