@@ -1,0 +1,121 @@
+//! A library under measurement, and Oddrafisk as one.
+
+use std::hint::black_box;
+
+use crate::cases::{Asked, Case};
+use crate::oddrafisk::{self, ENTRIES, RECORDS};
+use crate::value::Batch;
+
+#[derive(Clone, Copy, Debug, PartialEq)]
+pub enum Operation {
+    Check,
+    Read,
+    Write,
+    Canonical,
+}
+
+impl Operation {
+    pub fn name(self) -> &'static str {
+        match self {
+            Self::Check => "check",
+            Self::Read => "read",
+            Self::Write => "write",
+            Self::Canonical => "is_canonical",
+        }
+    }
+}
+
+/// What an operation gives, by which two libraries are compared.
+#[derive(Debug, PartialEq)]
+pub enum Outcome {
+    Read(Option<Batch>),
+    Written(Option<Vec<u8>>),
+    Verdict(bool),
+}
+
+/// Does the operation as many times as it is told.
+pub type Runner<'a> = Box<dyn FnMut(u64) + 'a>;
+
+pub trait Side {
+    fn name(&self) -> &'static str;
+
+    /// None where the library has no such operation or cannot be given this case.
+    fn runner<'a>(&self, operation: Operation, case: &'a Case) -> Option<Runner<'a>>;
+
+    /// Done once, with its outcome.
+    fn outcome(&self, operation: Operation, case: &Case) -> Option<Outcome>;
+
+    /// The checksum that it uses, of bytes lent.
+    fn checksum<'a>(&self, bytes: &'a [u8]) -> Runner<'a>;
+}
+
+/// Repeats a step, whose result is taken for used.
+pub fn repeat<'a, T>(mut step: impl FnMut() -> T + 'a) -> Runner<'a> {
+    Box::new(move |times| {
+        for _ in 0..times {
+            black_box(step());
+        }
+    })
+}
+
+pub struct Oddrafisk;
+
+impl Side for Oddrafisk {
+    fn name(&self) -> &'static str {
+        "oddrafisk"
+    }
+
+    fn runner<'a>(&self, operation: Operation, case: &'a Case) -> Option<Runner<'a>> {
+        let bytes = &case.bytes[..];
+        Some(match operation {
+            Operation::Check => {
+                let mut answer = [0; ENTRIES];
+                repeat(move || oddrafisk::check(black_box(bytes), &mut answer))
+            }
+            Operation::Read => {
+                let mut tables = case.tables();
+                let mut answer = [0; ENTRIES];
+                repeat(move || oddrafisk::read(black_box(bytes), &mut tables, &mut answer))
+            }
+            Operation::Write => {
+                let (asked, _) = case.asked.as_ref()?;
+                let mut output = vec![0; bytes.len()];
+                repeat(move || write(black_box(asked), &mut output))
+            }
+            Operation::Canonical => repeat(move || oddrafisk::is_canonical(black_box(bytes))),
+        })
+    }
+
+    fn outcome(&self, operation: Operation, case: &Case) -> Option<Outcome> {
+        match operation {
+            Operation::Check => None,
+            Operation::Read => Some(Outcome::Read(read(case))),
+            Operation::Write => {
+                let (asked, expected) = case.asked.as_ref()?;
+                let mut output = vec![0; case.bytes.len()];
+                let number = write(asked, &mut output);
+                assert_eq!(number, *expected, "write, {}", case.name);
+                Some(Outcome::Written((number == oddrafisk::ACCEPTED).then_some(output)))
+            }
+            Operation::Canonical => Some(Outcome::Verdict(oddrafisk::is_canonical(&case.bytes))),
+        }
+    }
+
+    fn checksum<'a>(&self, bytes: &'a [u8]) -> Runner<'a> {
+        repeat(move || oddrafisk::crc32c(black_box(bytes)))
+    }
+}
+
+fn read(case: &Case) -> Option<Batch> {
+    let mut tables = case.tables();
+    let mut answer = [0; ENTRIES];
+    let number = oddrafisk::read(&case.bytes, &mut tables, &mut answer);
+    assert_eq!(number, case.reads_as, "read, {}", case.name);
+    let count = answer[RECORDS] as usize;
+    (number == oddrafisk::ACCEPTED).then(|| Batch::from_rows(&answer, count, &tables, &case.bytes))
+}
+
+fn write(asked: &Asked, output: &mut [u8]) -> u32 {
+    let Asked { entries, codec, tables, source } = asked;
+    oddrafisk::write(entries, *codec, tables, source, output, &mut [0])
+}
