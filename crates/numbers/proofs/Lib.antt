@@ -1,4 +1,6 @@
 pub mod AllBytes
+pub mod Blocks
+pub mod Few
 pub mod Integers
 pub mod Pens
 pub mod Picks

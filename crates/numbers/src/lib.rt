@@ -1,7 +1,10 @@
 // The numbers of the record batch, integers of fixed size and numbers of varying length, and their bytes. Types and names
 // follow src/protocol/primitives.rs of rskafka 0.6.0.
 ghost use mathlib.Core.Path.{_≡_};
-ghost use Prim.Native.Nat.{min};
+ghost use mathlib.Core.List.{_∷_};
+ghost use Prim.Native.Nat.{_+_, _≤_, min};
+ghost use lib.ListN.{length, take, drop, replicate};
+ghost use lib.Seq.{sets};
 ghost use Rattle.numbers.specs.Format.{complement, bigEndian, zigzag, fewest};
 ghost use Rattle.numbers.specs.Answers.{inTen};
 ghost use Rattle.numbers.specs.Promises.{ToBeBytesPromise, UnsignedToBeBytesPromise, EncodePromise, PutPromise};
@@ -35,6 +38,9 @@ pub struct Encoded {
     pub bytes: [u8; 10],
     pub len: usize,
 }
+
+// How many bytes are put at once.
+const BLOCK: usize = 8;
 
 impl Int8 {
     pub fn to_be_bytes(self) -> [u8; 1]
@@ -167,8 +173,39 @@ fn encode_zigzag(n: i64) -> u64
     }
 }
 
-// Both widths: seven bits a byte, lowest first, the top bit set on all but the last.
+// Both widths: seven bits a byte, lowest first, the top bit set on all but the last. Most numbers of a batch are short, and
+// the compiler sees where their bytes go when they are not stored by a loop.
 fn fewest_bytes(c: u64) -> Encoded
+    ensures { λ r. ⌜ r ≡ inTen (fewest 9 c) ⌝ }
+{
+    if c < 0x80 {
+        return few_bytes(c as u8, 0, 0, 0, 1);
+    }
+    let first = (128 + c % 128) as u8;
+    if c < 0x4000 {
+        return few_bytes(first, (c / 0x80) as u8, 0, 0, 2);
+    }
+    let second = (128 + c / 0x80 % 128) as u8;
+    if c < 0x20_0000 {
+        return few_bytes(first, second, (c / 0x4000) as u8, 0, 3);
+    }
+    let third = (128 + c / 0x4000 % 128) as u8;
+    if c < 0x1000_0000 {
+        return few_bytes(first, second, third, (c / 0x20_0000) as u8, 4);
+    }
+    many_bytes(c)
+}
+
+fn few_bytes(first: u8, second: u8, third: u8, fourth: u8, len: usize) -> Encoded
+    ensures { λ r. ⌜ r ≡ (record { bytes = first ∷ second ∷ third ∷ fourth ∷ replicate 6 0; len = len }) ⌝ }
+{
+    Encoded {
+        bytes: [first, second, third, fourth, 0, 0, 0, 0, 0, 0],
+        len,
+    }
+}
+
+fn many_bytes(c: u64) -> Encoded
     ensures { λ r. ⌜ r ≡ inTen (fewest 9 c) ⌝ }
 {
     let mut bytes = [0u8; 10];
@@ -192,12 +229,61 @@ pub fn put(bytes: &[u8], output: &mut [u8], at: usize) -> usize
         return room;
     }
     let n = lesser(bytes.len(), room - at);
+    put_all(&bytes[..n], output, at);
+    at + n
+}
+
+// Bytes that the output has room for.
+fn put_all(bytes: &[u8], output: &mut [u8], at: usize)
+    requires { ⌜ at + length (now bytes) ≤ length (now output) ⌝ }
+    ensures { λ _. ⌜ now (output .exit) ≡ sets (now (output .entry)) at (now (bytes .entry)) ⌝ }
+{
+    if bytes.len() < BLOCK {
+        put_each(bytes, output, at);
+        return;
+    }
+    put_blocks(bytes, output, at);
+}
+
+fn put_each(bytes: &[u8], output: &mut [u8], at: usize)
+    requires { ⌜ at + length (now bytes) ≤ length (now output) ⌝ }
+    ensures { λ _. ⌜ now (output .exit) ≡ sets (now (output .entry)) at (now (bytes .entry)) ⌝ }
+{
     let mut i: usize = 0;
-    while i < n {
+    while i < bytes.len() {
         output[at + i] = bytes[i];
         i += 1;
     }
-    at + n
+}
+
+// Block after block. The last one ends where the bytes do, and may lie over a part of the one before it. A block is copied
+// before it is stored, so that the compiler can move all of it at once.
+fn put_blocks(bytes: &[u8], output: &mut [u8], at: usize)
+    requires { ⌜ (8 ≤ length (now bytes)) × (at + length (now bytes) ≤ length (now output)) ⌝ }
+    ensures { λ _. ⌜ now (output .exit) ≡ sets (now (output .entry)) at (now (bytes .entry)) ⌝ }
+{
+    let last = bytes.len() - BLOCK;
+    let mut i: usize = 0;
+    while i < last {
+        let block = block_at(bytes, i);
+        put_each(&block, output, at + i);
+        i += BLOCK;
+    }
+    let block = block_at(bytes, last);
+    put_each(&block, output, at + last);
+}
+
+fn block_at(bytes: &[u8], from: usize) -> [u8; 8]
+    requires { ⌜ from + 8 ≤ length (now bytes) ⌝ }
+    ensures { λ r. ⌜ (length r ≡ 8) × (r ≡ take 8 (drop from (now (bytes .entry)))) ⌝ }
+{
+    let mut block = [0u8; 8];
+    let mut i: usize = 0;
+    while i < BLOCK {
+        block[i] = bytes[from + i];
+        i += 1;
+    }
+    block
 }
 
 fn lesser(a: usize, b: usize) -> usize

@@ -1,6 +1,6 @@
 -- What the functions return, by the answer of each step before, and what their answers say of a number that was passed
 -- on. The premises have the form in which a proof finds them. Assumes nothing.
-use Prim.Native.Nat.{ℕ, _+_, _^_, _≤_, _<_, min}
+use Prim.Native.Nat.{ℕ, _+_, _*_, _^_, _≤_, _<_, min}
 use mathlib.Core.Path.{_≡_, ap, _∙_}
 use mathlib.Core.Bool.{true, false}
 use native.Mathlib.Omega.{arith}
@@ -13,6 +13,7 @@ use mir.ValLaws.{toZ-ofZ, toZ-pos}
 use Rattle.numbers.specs.declared.Encoded.{Encoded}
 use Rattle.numbers.specs.Format.{shortest}
 use Rattle.numbers.specs.Answers.{inTen}
+use Rattle.numbers.proofs.Shortest.{fewest-last}
 use Rattle.numbers.proofs.Signs.{nonnegative, negative}
 use Rattle.sizes.specs.Promises.{NumberSizePromise}
 use Rattle.sizes.specs.Sizes.{spanSize, placeSize, cap}
@@ -31,6 +32,12 @@ number-back z r fits e = e .is ∙ ap (λ (n : ℤ). length (shortest n)) (toZ-o
 -- a length or a count, which is not negative
 pub count-back : (n r : ℕ) → n < 2 ^ 63 → NumberSizePromise (toZ w64 n) r → r ≡ length (shortest (pos n))
 count-back n r small e = e .is ∙ ap (λ (z : ℤ). length (shortest z)) (toZ-pos w64 n small)
+
+pub span-short : (len : ℕ) → len < 64 → 1 + len ≡ min (spanSize len) cap
+unfolding spanSize shortest
+span-short len h =
+    let one : length (shortest (pos len)) ≡ 1 = ap length (fewest-last 9 (2 * len) (omega arith)) in
+    omega (arith, one)
 
 pub span-stops : (len : ℕ) → 2147483648 ≤ len → 2147483648 ≡ min (spanSize len) cap
 unfolding spanSize

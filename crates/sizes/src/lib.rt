@@ -14,10 +14,13 @@ pub fn number_size(n: i64) -> usize
     shortest.len
 }
 
-// As many bytes after their length.
+// As many bytes after their length. Most are so few that their length is one byte.
 pub fn span_size(len: usize) -> usize
     ensures { λ r. ⌜ SpanSizePromise len r ⌝ }
 {
+    if len < 64 {
+        return 1 + len;
+    }
     if CAP <= len {
         return CAP;
     }

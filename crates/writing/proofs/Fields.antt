@@ -1,5 +1,5 @@
 -- A record's row with the rows of its headers: what it takes, and what is written of it. Assumes nothing.
-use Prim.Native.Nat.{ℕ, _+_, _/_, _≤_, _<_, min}
+use Prim.Native.Nat.{ℕ, _+_, _/_, _≤_, _<_}
 use mathlib.Core.Path.{_≡_, refl, sym, ap, _∙_}
 use mathlib.Core.List.{List, [], _∷_, _++_, map, append-assoc}
 use native.Mathlib.Omega.{arith}
@@ -30,6 +30,7 @@ use Rattle.writing.specs.declared.Put.{Put}
 use Rattle.writing.specs.Sized.{headOfSize, viewSized}
 use Rattle.writing.specs.Put.{cappedRecord, viewPut}
 use Rattle.writing.proofs.Inside.{Sound, sound-at}
+use Rattle.writing.proofs.Loops.{sizes-end}
 use Rattle.writing.proofs.Pens.{three}
 
 -- ---- steps that are alike where they are taken
@@ -57,29 +58,28 @@ module _ (t : Tables) (s : List ℕ) (row first : ℕ) (a : RecordAsked) (r : As
 
 -- ---- sizes
 
-module _ (r : AskedRecord) (t : List ℤ) (s : List ℕ) (first next : ℕ) (z : Sized)
-    (e : viewSized next z ≡ mapStep (λ hs. capped (headersSize hs)) (times (headerAsked t s) (r .headers) first)) where
-  pub fields-sized : (n head size : ℕ) → z ≡ Sized.Size n → head ≡ capped (headOfSize (headOf r)) → size ≡ min (head + n) cap
-      → ok size next ≡ mapStep (λ hs. capped (fieldsSize (withHeaders (headOf r) hs))) (times (headerAsked t s) (r .headers) first)
+-- z is the size of what follows the length of a record with this row
+abbrev pub FieldsSized : List ℤ → List ℕ → ℕ → AskedRecord → Sized → Type 0
+FieldsSized t s first r z =
+    viewSized (first + r .headers) z ≡ mapStep (λ hs. capped (fieldsSize (withHeaders (headOf r) hs))) (times (headerAsked t s) (r .headers) first)
+
+module _ (r : AskedRecord) (t : List ℤ) (s : List ℕ) (first head : ℕ) (z : Sized) (e : head ≡ capped (headOfSize (headOf r))) where
+  -- with the headers' sizes put onto the head's
+  pub fields-sized : (y : Sized) → viewSized (first + r .headers) y ≡ mapStep (λ hs. capped (head + headersSize hs)) (times (headerAsked t s) (r .headers) first)
+      → z ≡ y → FieldsSized t s first r z
   unfolding fieldsSize
-  fields-sized n head size f g sums =
-      let (hs, is, same) = map-ok (λ hs. capped (headersSize hs)) (times (headerAsked t s) (r .headers) first) (sym e ∙ ap (viewSized next) f) in
-      let count : length hs ≡ r .headers = times-count (headerAsked t s) (r .headers) first is in
-      let whole : headOfSize (headOf r) ≡ headSize (r .«timestamp_delta») (r .«offset_delta») (lengthIn (spanOf (r .key))) (lengthIn (spanOf (r .value))) (length hs)
-      = ap (headSize (r .«timestamp_delta») (r .«offset_delta») (lengthIn (spanOf (r .key))) (lengthIn (spanOf (r .value)))) (sym count) in
-      let total : size ≡ capped (fieldsSize (withHeaders (headOf r) hs)) = omega (arith, same, g, sums, whole) in
-      ap (λ k. ok k next) total ∙ sym (ap (mapStep (λ hs. capped (fieldsSize (withHeaders (headOf r) hs)))) is)
+  fields-sized y f g = ap (viewSized (first + r .headers)) g ∙ f ∙ map-same _ _ (times (headerAsked t s) (r .headers) first) (λ hs q is. same hs (times-count (headerAsked t s) (r .headers) first is))
+    where
+      same : (hs : List HeaderSpans) → length hs ≡ r .headers → capped (head + headersSize hs) ≡ capped (fieldsSize (withHeaders (headOf r) hs))
+      same hs n =
+          let whole : headOfSize (headOf r) ≡ headSize (r .«timestamp_delta») (r .«offset_delta») (lengthIn (spanOf (r .key))) (lengthIn (spanOf (r .value))) (length hs)
+          = ap (headSize (r .«timestamp_delta») (r .«offset_delta») (lengthIn (spanOf (r .key))) (lengthIn (spanOf (r .value)))) (sym n) in
+          omega (arith, e, whole)
 
-  pub fields-refused : (f : WriteFault) → z ≡ Sized.Refused f
-      → no (writeNumberOf f) ≡ mapStep (λ hs. capped (fieldsSize (withHeaders (headOf r) hs))) (times (headerAsked t s) (r .headers) first)
-  fields-refused f g =
-      sym (ap (mapStep (λ hs. capped (fieldsSize (withHeaders (headOf r) hs))))
-      (map-no (λ hs. capped (headersSize hs)) (times (headerAsked t s) (r .headers) first) (sym e ∙ ap (viewSized next) g)))
-
-  pub headers-small : (n : ℕ) → z ≡ Sized.Size n → n ≤ cap
-  headers-small n f =
-      let (hs, _, same) = map-ok (λ hs. capped (headersSize hs)) (times (headerAsked t s) (r .headers) first) (sym e ∙ ap (viewSized next) f) in
-      omega (arith, same)
+  -- with no headers
+  pub head-alone : r .headers ≡ 0 → z ≡ Sized.Size head → FieldsSized t s first r z
+  head-alone none f =
+      fields-sized (Sized.Size head) (sizes-end t s head (r .headers) first (first + r .headers) _ refl none (omega (arith, e)) (omega arith)) f
 
 pub fields-small : (r : AskedRecord) (t : List ℤ) (s : List ℕ) (k first next n : ℕ) (z : Sized)
     → viewSized next z ≡ mapStep (λ hs. capped (fieldsSize (withHeaders (headOf r) hs))) (times (headerAsked t s) k first) → z ≡ Sized.Size n → n ≤ cap

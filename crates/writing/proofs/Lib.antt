@@ -4,6 +4,7 @@ mod Lengths
 mod Loops
 pub mod Outcomes
 mod Pens
+pub mod Short
 pub mod Single
 mod Sizing
 pub mod Untouched

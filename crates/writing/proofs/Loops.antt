@@ -67,9 +67,6 @@ module _ (t : List ℤ) (s : List ℕ) where
     pub header-stop : (f : WriteFault) → r ≡ HeaderAsked.Refused f → no (writeNumberOf f) ≡ whole
     header-stop f h = stop (headerAsked t s) g now k row whole inv some (sym asked ∙ ap (viewHeader row) h)
 
-  pub sizes-start : (k row : ℕ) → rest (headerAsked t s) sizesOn 0 k row ≡ mapStep (λ hs. capped (headersSize hs)) (times (headerAsked t s) k row)
-  sizes-start k row = λ i. mapStep (λ hs. capped (zero-add (headersSize hs) i)) (times (headerAsked t s) k row)
-
   pub sizes-turn : (sum k row : ℕ) (whole : Step ℕ ℕ) (r : HeaderAsked) (h : AskedHeader) (n next end : ℕ)
       → rest (headerAsked t s) sizesOn sum k row ≡ whole → 0 < k → row + k ≡ end → end ≤ length t / 4 → viewHeader row r ≡ headerRowAsked t s row
       → r ≡ HeaderAsked.Got h

@@ -30,16 +30,8 @@ module _ (n : ℤ) (e : Encoded) (h : e ≡ inTen (shortest n)) where
   encoded-inside =
       rw (ap (λ (x : Encoded). x .len) h, ap (λ (x : Encoded). length (x .bytes)) h, length-append (shortest n)) (omega arith)
 
-  encoded-taken : take (e .len) (e .bytes) ≡ shortest n
+  pub encoded-taken : take (e .len) (e .bytes) ≡ shortest n
   encoded-taken = ap (λ (x : Encoded). take (x .len) (x .bytes)) h ∙ take-append-seam (shortest n) _
-
-  pub encoded-part : e .len ≡ length (take (e .len) (e .bytes))
-  encoded-part = ap (λ (x : Encoded). x .len) h ∙ sym (ap length encoded-taken)
-
-  pub encoded-put : (out : List ℕ) (at next : ℕ) (output : List ℕ)
-      → PutPromise (take (e .len) (e .bytes)) out at (record { next = next; output = output })
-      → pen next output ≡ emit (shortest n) (pen at out)
-  encoded-put out at next output p = put-emits at out _ next output p ∙ ap (λ (x : List ℕ). emit x (pen at out)) encoded-taken
 
 -- a length as a signed number is the length
 pub length-put : (n : ℕ) (p q : Pen) → n < 2 ^ 63 → q ≡ emit (shortest (toZ w64 n)) p → q ≡ emit (shortest (pos n)) p
@@ -87,12 +79,11 @@ pub shown-inside : (s : List ℕ) (x : Shown) (bytes : Declared) → NullableIns
     → bytes .start + bytes .len ≤ length s
 shown-inside s x bytes h e = rw e at h
 
-pub start-put : (size : ℕ) (t o : ℤ) → SFits w64 t → SFits w32 o → (p : Pen) (out : List ℕ) (at next : ℕ) (output : List ℕ) (r u : Pen)
-    → pen at out ≡ emit (shortest (pos size)) p → PutPromise (0 ∷ []) out at (record { next = next; output = output })
-    → r ≡ emit (shortest (toZ w64 (ofZ w64 t))) (pen next output) → u ≡ emit (shortest (toZ w32 (ofZ w32 o))) r
+pub start-put : (size : ℕ) (t o : ℤ) → SFits w64 t → SFits w32 o → (p q r s u : Pen)
+    → q ≡ emit (shortest (pos size)) p → r ≡ emit (0 ∷ []) q
+    → s ≡ emit (shortest (toZ w64 (ofZ w64 t))) r → u ≡ emit (shortest (toZ w32 (ofZ w32 o))) s
     → u ≡ emit (shortest (pos size) ++ ((0 ∷ []) ++ (shortest t ++ shortest o))) p
-start-put size t o fits fits′ p out at next output r u e h f g =
-    four (shortest (pos size)) (0 ∷ []) (shortest t) (shortest o) p (pen at out) (pen next output) r u e
-    (put-emits at out _ next output h)
-    (f ∙ ap (λ (z : ℤ). emit (shortest z) (pen next output)) (toZ-ofZ w64 t fits))
-    (g ∙ ap (λ (z : ℤ). emit (shortest z) r) (toZ-ofZ w32 o fits′))
+start-put size t o fits fits′ p q r s u e h f g =
+    four (shortest (pos size)) (0 ∷ []) (shortest t) (shortest o) p q r s u e h
+    (f ∙ ap (λ (z : ℤ). emit (shortest z) r) (toZ-ofZ w64 t fits))
+    (g ∙ ap (λ (z : ℤ). emit (shortest z) s) (toZ-ofZ w32 o fits′))

@@ -32,15 +32,23 @@ narrow-fits z f = rw (toZ-ofZ w32 z f) (wider z f)
     wider (pos n) g = record { sfits = omega (arith, g .sfits) }
     wider (negsuc k) g = record { sfits = omega (arith, g .sfits) }
 
--- what is passed on of a record's row is the row's
-module _ (r : AskedRecord) (timestamp : SFits w64 (r .«timestamp_delta»)) (offset : SFits w32 (r .«offset_delta»)) (count : r .headers < 2 ^ 63) where
-  pub head-sized : (t o k v n size : ℕ) → NumberSizePromise (toZ w64 (ofZ w64 (r .«timestamp_delta»))) t
-      → NumberSizePromise (toZ w64 (ofZ w64 (toZ w32 (ofZ w32 (r .«offset_delta»))))) o
-      → k ≡ capped (placeSize (lengthIn (spanOf (r .key)))) → v ≡ capped (placeSize (lengthIn (spanOf (r .value))))
-      → NumberSizePromise (toZ w64 (r .headers)) n → size ≡ min (1 + (t + o) + (k + v) + n) cap
-      → size ≡ capped (headOfSize (headOf r))
-  unfolding headSize
-  head-sized t o k v n size e f g h i j =
-      let o-is : o ≡ length (shortest (r .«offset_delta»))
-      = number-back _ o (narrow-fits _ offset) f ∙ ap (λ (z : ℤ). length (shortest z)) (toZ-ofZ w32 _ offset) in
-      omega (arith, number-back _ t timestamp e, o-is, count-back (r .headers) n count i, g, h, j)
+-- what is passed on is what was given
+pub head-sized : (t o : ℤ) (count : ℕ) → SFits w64 t → SFits w32 o → count < 2 ^ 63 → (bytes timestamp offset n size : ℕ)
+    → NumberSizePromise (toZ w64 (ofZ w64 t)) timestamp → NumberSizePromise (toZ w64 (ofZ w64 (toZ w32 (ofZ w32 o)))) offset
+    → NumberSizePromise (toZ w64 count) n → size ≡ min (1 + (timestamp + offset) + bytes + n) cap
+    → size ≡ capped (1 + (length (shortest t) + (length (shortest o) + (bytes + length (shortest (pos count))))))
+head-sized t o count fits fits′ small bytes timestamp offset n size e f g h =
+    let o-is : offset ≡ length (shortest o)
+    = number-back _ offset (narrow-fits _ fits′) f ∙ ap (λ (z : ℤ). length (shortest z)) (toZ-ofZ w32 _ fits′) in
+    omega (arith, number-back _ timestamp fits e, o-is, count-back count n small g, h)
+
+-- and of a record's row it is the row's
+pub row-head-sized : (r : AskedRecord) → SFits w64 (r .«timestamp_delta») → SFits w32 (r .«offset_delta») → (key value size : ℕ)
+    → key ≡ capped (placeSize (lengthIn (spanOf (r .key)))) → value ≡ capped (placeSize (lengthIn (spanOf (r .value))))
+    → size ≡ capped (1 + (length (shortest (toZ w64 (ofZ w64 (r .«timestamp_delta»)))) + (length (shortest (toZ w32 (ofZ w32 (r .«offset_delta»)))) + ((key + value) + length (shortest (pos (r .headers)))))))
+    → size ≡ capped (headOfSize (headOf r))
+unfolding headSize
+row-head-sized r fits fits′ key value size e f g =
+    let t-is = ap (λ (z : ℤ). length (shortest z)) (toZ-ofZ w64 (r .«timestamp_delta») fits) in
+    let o-is = ap (λ (z : ℤ). length (shortest z)) (toZ-ofZ w32 (r .«offset_delta») fits′) in
+    omega (arith, e, f, g, t-is, o-is)

@@ -15,12 +15,13 @@ use records::Record;
 use sizes::capped;
 use sizes::number_size;
 use sizes::span_size;
-ghost use Prim.Native.Nat.{_+_, _/_, _^_, _<_, _≤_};
+ghost use Prim.Native.Nat.{_+_, _*_, _/_, _^_, _<_, _≤_};
 ghost use mathlib.Core.Path.{_≡_};
 ghost use mathlib.Core.List.{[], _∷_, _++_, map};
+ghost use lib.Dec.{ltb};
 ghost use lib.IntN.{pos};
 ghost use lib.ListN.{length};
-ghost use Rattle.numbers.specs.Format.{shortest};
+ghost use Rattle.numbers.specs.Format.{zigzag, shortest};
 ghost use Rattle.numbers.specs.Pen.{pen, emit};
 ghost use Rattle.primitives.specs.Step.{mapStep, times};
 ghost use Rattle.primitives.specs.Reading.{shown};
@@ -29,10 +30,10 @@ ghost use Rattle.records.specs.Rows.{tables};
 ghost use Rattle.records.specs.Placed.{shownHeader, shownRecord};
 ghost use Rattle.records.specs.Written.{writtenBytes, writtenNullable, writtenHeader, writtenHeaders, writtenFields};
 ghost use Rattle.sizes.specs.Inside.{NullableInside, HeaderInside};
-ghost use Rattle.sizes.specs.Sizes.{placeSize, lengthIn, headerSize, headersSize, fieldsSize, recordSize, recordsSize, capped};
+ghost use Rattle.sizes.specs.Sizes.{placeSize, lengthIn, headerSize, headersSize, recordSize, recordsSize, cap, capped};
 ghost use Rattle.asking.specs.Asked.{headerAsked, withHeaders, rowPlace, recordAsked};
 ghost use Rattle.asking.specs.Answers.{spanOf, headerOf, headOf};
-ghost use Rattle.writing.specs.Sized.{headOfSize, forget, viewSized, viewRowSized};
+ghost use Rattle.writing.specs.Sized.{forget, viewSized, viewRowSized};
 ghost use Rattle.writing.specs.Put.{cappedRecord, cappedRecords, viewPut, viewRowPut};
 ghost use Rattle.writing.specs.Promises.{MeasureRecordsPromise, WriteRecordsPromise};
 
@@ -146,26 +147,23 @@ fn header_size(h: AskedHeader) -> usize
     capped(span_size(key.len) + span_size(value.len))
 }
 
-// What follows a record's length, up to its headers.
-fn head_size(r: AskedRecord) -> usize
-    requires { ⌜ r .headers < 2 ^ 63 ⌝ }
-    ensures { λ n. ⌜ n ≡ capped (headOfSize (headOf r)) ⌝ }
+// What follows a record's length, up to its headers, where its key and its value take so many bytes.
+fn head_size(timestamp_delta: i64, offset_delta: i32, bytes: usize, headers: usize) -> usize
+    requires { ⌜ (bytes ≤ 2 * cap) × (headers < 2 ^ 63) ⌝ }
+    ensures { λ n. ⌜ n ≡ capped (1 + (length (shortest «timestamp_delta») + (length (shortest «offset_delta») + (bytes + length (shortest (pos headers)))))) ⌝ }
 {
-    let key = r.key;
-    let value = r.value;
-    let deltas = number_size(r.timestamp_delta) + number_size(r.offset_delta as i64);
-    let bytes = shown_size(key) + shown_size(value);
-    capped(1 + deltas + bytes + number_size(r.headers as i64))
+    let deltas = number_size(timestamp_delta) + number_size(offset_delta as i64);
+    capped(1 + deltas + bytes + number_size(headers as i64))
 }
 
-// The headers of a record.
-fn size_headers(headers: &[i64], source: &[u8], first: usize, count: usize) -> Sized
-    requires { ⌜ first + count ≤ length (now headers) / 4 ⌝ }
-    ensures { λ r. ⌜ viewSized (first + count) r ≡ mapStep (λ hs. capped (headersSize hs)) (times (headerAsked (now (headers .entry)) (now (source .entry))) count first) ⌝ }
+// The headers of a record, with the `head` bytes that stand before them.
+fn size_headers(headers: &[i64], source: &[u8], first: usize, count: usize, head: usize) -> Sized
+    requires { ⌜ (first + count ≤ length (now headers) / 4) × (head ≤ cap) ⌝ }
+    ensures { λ r. ⌜ viewSized (first + count) r ≡ mapStep (λ hs. capped (head + headersSize hs)) (times (headerAsked (now (headers .entry)) (now (source .entry))) count first) ⌝ }
 {
     let mut left = count;
     let mut row = first;
-    let mut sum: usize = 0;
+    let mut sum = head;
     while 0 < left {
         match header_asked(headers, source, row) {
             HeaderAsked::Got(h) => {
@@ -182,17 +180,6 @@ fn size_headers(headers: &[i64], source: &[u8], first: usize, count: usize) -> S
     Sized::Size(sum)
 }
 
-// What follows a record's length.
-fn size_fields(headers: &[i64], source: &[u8], r: AskedRecord, first: usize) -> Sized
-    requires { ⌜ first + r .headers ≤ length (now headers) / 4 ⌝ }
-    ensures { λ n. ⌜ viewSized (first + r .headers) n ≡ mapStep (λ hs. capped (fieldsSize (withHeaders (headOf r) hs))) (times (headerAsked (now (headers .entry)) (now (source .entry))) (r .headers) first) ⌝ }
-{
-    match size_headers(headers, source, first, r.headers) {
-        Sized::Size(n) => Sized::Size(capped(head_size(r) + n)),
-        Sized::Refused(f) => Sized::Refused(f),
-    }
-}
-
 fn size_record(
     records: &[i64],
     headers: &[i64],
@@ -206,7 +193,17 @@ fn size_record(
     match record_asked(records, headers, source, row, first) {
         RecordAsked::Got(r) => {
             let next = first + r.headers;
-            match size_fields(headers, source, r, first) {
+            let key = r.key;
+            let value = r.value;
+            let bytes = shown_size(key) + shown_size(value);
+            let head = head_size(r.timestamp_delta, r.offset_delta, bytes, r.headers);
+            // Most records have no headers, and need no walk over them.
+            let fields = if r.headers == 0 {
+                Sized::Size(head)
+            } else {
+                size_headers(headers, source, first, r.headers, head)
+            };
+            match fields {
                 Sized::Size(n) => RowSized::Size {
                     bytes: span_size(n),
                     first: next,
@@ -249,22 +246,72 @@ fn size_records(
     Sized::Size(sum)
 }
 
+// A number of one byte, as most are, has a way of its own.
 fn put_varint(n: Varint, output: &mut [u8], at: usize) -> usize
     ensures { λ r. ⌜ pen r (now (output .exit)) ≡ emit (shortest (n .0)) (pen at (now (output .entry))) ⌝ }
 {
-    let e = n.encode();
-    let bytes = e.bytes;
-    let len = e.len;
-    put(&bytes[..len], output, at)
+    let n = n.0 as i64;
+    if is_one_byte(n) {
+        return put_byte(one_byte(n), output, at);
+    }
+    put_long(Varlong(n), output, at)
 }
 
 fn put_varlong(n: Varlong, output: &mut [u8], at: usize) -> usize
     ensures { λ r. ⌜ pen r (now (output .exit)) ≡ emit (shortest (n .0)) (pen at (now (output .entry))) ⌝ }
 {
+    let n = n.0;
+    if is_one_byte(n) {
+        return put_byte(one_byte(n), output, at);
+    }
+    put_long(Varlong(n), output, at)
+}
+
+fn is_one_byte(n: i64) -> bool
+    ensures { λ r. ⌜ r ≡ ltb (zigzag n) 128 ⌝ }
+{
+    if n < -64 {
+        return false;
+    }
+    n < 64
+}
+
+fn one_byte(n: i64) -> u8
+    requires { ⌜ zigzag n < 128 ⌝ }
+    ensures { λ r. ⌜ r ≡ zigzag n ⌝ }
+{
+    if 0 <= n {
+        return (2 * (n as u64)) as u8;
+    }
+    (2 * ((-1 - n) as u64) + 1) as u8
+}
+
+fn put_byte(b: u8, output: &mut [u8], at: usize) -> usize
+    ensures { λ r. ⌜ pen r (now (output .exit)) ≡ emit (b ∷ []) (pen at (now (output .entry))) ⌝ }
+{
+    let room = output.len();
+    if room <= at {
+        return room;
+    }
+    output[at] = b;
+    at + 1
+}
+
+// A number of more than one byte, of either width. Its bytes are put one by one: taken together they would be waited for,
+// since they have only just been stored.
+fn put_long(n: Varlong, output: &mut [u8], from: usize) -> usize
+    requires { ⌜ 128 ≤ zigzag (n .0) ⌝ }
+    ensures { λ r. ⌜ pen r (now (output .exit)) ≡ emit (shortest (n .0)) (pen from (now (output .entry))) ⌝ }
+{
     let e = n.encode();
-    let bytes = e.bytes;
-    let len = e.len;
-    put(&bytes[..len], output, at)
+    let second = put_byte(e.bytes[0], output, from);
+    let mut at = put_byte(e.bytes[1], output, second);
+    let mut i: usize = 2;
+    while i < e.len {
+        at = put_byte(e.bytes[i], output, at);
+        i += 1;
+    }
+    at
 }
 
 // A length or a count. Both are Varints, and their shortest bytes are those of a Varlong: so one that no Varint holds,
@@ -349,9 +396,8 @@ fn put_start(
     requires { ⌜ size < 2 ^ 63 ⌝ }
     ensures { λ r. ⌜ pen r (now (output .exit)) ≡ emit (shortest (pos size) ++ ((0 ∷ []) ++ (shortest «timestamp_delta» ++ shortest «offset_delta»))) (pen at (now (output .entry))) ⌝ }
 {
-    let attributes = [0u8; 1];
     let at_attributes = put_length(size, output, at);
-    let at_timestamp = put(&attributes, output, at_attributes);
+    let at_timestamp = put_byte(0, output, at_attributes);
     let at_offset = put_varlong(Varlong(timestamp_delta), output, at_timestamp);
     put_varint(Varint(offset_delta), output, at_offset)
 }
@@ -409,7 +455,17 @@ fn put_record(
     match record_asked(records, headers, source, row, first) {
         RecordAsked::Got(r) => {
             let next = first + r.headers;
-            match size_fields(headers, source, r, first) {
+            let key = r.key;
+            let value = r.value;
+            let bytes = shown_size(key) + shown_size(value);
+            let head = head_size(r.timestamp_delta, r.offset_delta, bytes, r.headers);
+            // Most records have no headers, and need no walk over them.
+            let fields = if r.headers == 0 {
+                Sized::Size(head)
+            } else {
+                size_headers(headers, source, first, r.headers, head)
+            };
+            match fields {
                 Sized::Size(n) => match put_fields(headers, source, n, r, first, output, at) {
                     Put::To(at) => RowPut::To { at, first: next },
                     Put::Refused(f) => RowPut::Refused(f),

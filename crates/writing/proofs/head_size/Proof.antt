@@ -1,6 +1,6 @@
 -- `writing::head_size` meets its contract. Assumes nothing.
-use Rattle.writing.proofs.Sizing.{narrow-fits, head-sized}
 use borrow.Author.Needs.{needs}
+use Rattle.writing.proofs.Sizing.{narrow-fits, head-sized}
 use Rattle.writing.proofs.head_size.Statement.{statement}
 use Rattle.writing.proofs.head_size.Tie as tie
 
@@ -8,22 +8,13 @@ number-size-requires : tie.Need-number-size-requires
 number-size-requires c κs = search needs
 
 cast-number-size : tie.Need-cast-number-size
-cast-number-size c = narrow-fits (c .before .before .before .before .args .r .«offset_delta») (search needs)
+cast-number-size c = narrow-fits (c .before .args .offset-delta) (search needs)
 
 number-size-requires-2 : tie.Need-number-size-requires-2
 number-size-requires-2 c κs = search needs
 
 add-deltas : tie.Need-add-deltas
 add-deltas c = search needs
-
-shown-size-requires : tie.Need-shown-size-requires
-shown-size-requires c κs = search needs
-
-shown-size-requires-2 : tie.Need-shown-size-requires-2
-shown-size-requires-2 c κs = search needs
-
-add-bytes : tie.Need-add-bytes
-add-bytes c = search needs
 
 add-capped : tie.Need-add-capped
 add-capped c = search needs
@@ -45,12 +36,10 @@ capped-requires c κs = search needs
 
 returns : tie.Need-returns
 returns c =
-    let d = c .before .before .before in
-    let e = d .before .before in
-    let start = e .before .before .before .before .before in
-    head-sized (start .args .r) (search needs) (search needs) (start .pre) _ _ _ _ _ _
-    (e .before .before .before .number-size .ensures) (e .number-size2 .ensures) (d .before .shown-size .ensures)
-    (d .shown-size2 .ensures) (c .before .number-size3 .ensures) (c .capped .ensures)
+    let start = c .before .before .before .before in
+    let a = start .args in
+    head-sized (a .timestamp-delta) (a .offset-delta) (a .headers) (start .fits .timestamp-delta) (start .fits .offset-delta) (start .pre .1) _ _ _ _ _
+    (c .before .before .before .number-size .ensures) (c .before .before .number-size2 .ensures) (c .before .number-size3 .ensures) (c .capped .ensures)
 
 pub head-size-spec : {M : Type 1} → statement M
 head-size-spec =
@@ -60,9 +49,6 @@ head-size-spec =
     cast-number-size
     number-size-requires-2
     add-deltas
-    shown-size-requires
-    shown-size-requires-2
-    add-bytes
     add-capped
     add-capped-2
     cast-number-size-2

@@ -1,17 +1,14 @@
 -- `writing::put_start` meets its contract. Assumes nothing.
-use Rattle.writing.proofs.Pens.{start-put}
 use borrow.Author.Needs.{needs}
+use Rattle.writing.proofs.Pens.{start-put}
 use Rattle.writing.proofs.put_start.Statement.{statement}
 use Rattle.writing.proofs.put_start.Tie as tie
 
 put-length-requires : tie.Need-put-length-requires
 put-length-requires c κs = search needs
 
-slice-aggregate-put : tie.Need-slice-aggregate-put
-slice-aggregate-put c = search needs
-
-put-requires : tie.Need-put-requires
-put-requires c κs = search needs
+put-byte-requires : tie.Need-put-byte-requires
+put-byte-requires c κs = search needs
 
 put-varlong-requires : tie.Need-put-varlong-requires
 put-varlong-requires c κs = search needs
@@ -27,18 +24,17 @@ returns c =
     let d = c .before .before in
     let e = d .before .before .before .before in
     let f = e .before .before .before .before in
-    let g = f .before .before .before .before .before in
+    let g = f .before .before .before .before in
     let start = g .before .before .before in
-    start-put _ _ _ (start .fits .timestamp-delta) (start .fits .offset-delta) _ _ _ _ _ _ _
-    (g .put-length .ensures) (f .put .ensures) (e .put-varlong .ensures) (d .put-varint .ensures)
+    start-put _ _ _ (start .fits .timestamp-delta) (start .fits .offset-delta) _ _ _ _ _
+    (g .put-length .ensures) (f .put-byte .ensures) (e .put-varlong .ensures) (d .put-varint .ensures)
 
 pub put-start-spec : {M : Type 1} → statement M
 put-start-spec =
     tie.close
     (tie.spec
     put-length-requires
-    slice-aggregate-put
-    put-requires
+    put-byte-requires
     put-varlong-requires
     put-varint-requires
     same-length

@@ -1,36 +1,52 @@
 -- `writing::put_varlong` meets its contract. Assumes nothing.
-use Rattle.writing.proofs.Pens.{encoded-inside, encoded-part, encoded-put}
 use borrow.Author.Needs.{needs}
+use mir.Syntax.{w64}
+use mir.ValLaws.{toZ-ofZ}
+use Rattle.writing.proofs.Short.{told-short, told-long, passed-put, short-put}
 use Rattle.writing.proofs.put_varlong.Statement.{statement}
 use Rattle.writing.proofs.put_varlong.Tie as tie
 
-encode-requires : tie.Need-encode-requires
-encode-requires c κs = search needs
+is-one-byte-requires : tie.Need-is-one-byte-requires
+is-one-byte-requires c κs = search needs
 
-array-share-prefix-bytes : tie.Need-array-share-prefix-bytes
-array-share-prefix-bytes c = encoded-inside _ _ (c .before .encode .ensures)
+one-byte-requires : tie.Need-one-byte-requires
+one-byte-requires c κs = told-short _ _ (c .before .is-one-byte .ensures) (c .if1 .taken)
 
-slice-aggregate-put : tie.Need-slice-aggregate-put
-slice-aggregate-put c = encoded-part _ _ (c .before .before .encode .ensures)
-
-put-requires : tie.Need-put-requires
-put-requires c κs = search needs
+put-byte-requires : tie.Need-put-byte-requires
+put-byte-requires c κs = search needs
 
 same-length : tie.Need-same-length
 same-length c = search needs
 
 returns : tie.Need-returns
 returns c =
-    let d = c .before .before in
-    encoded-put _ _ (d .before .before .before .before .encode .ensures) _ _ _ _ (d .put .ensures)
+    let put = c .before .before in
+    let byte = put .before .before in
+    let test = byte .before .before in
+    let n = test .before .before .before .args .n .0 in
+    short-put _ n (toZ-ofZ w64 n (search needs)) _ _ _ (told-short _ _ (test .is-one-byte .ensures) (byte .before .if1 .taken)) (byte .one-byte .ensures) (put .put-byte .ensures)
+
+put-long-requires : tie.Need-put-long-requires
+put-long-requires c κs = told-long _ _ (c .before .before .is-one-byte .ensures) (c .before .if1 .left)
+
+same-length-2 : tie.Need-same-length-2
+same-length-2 c = search needs
+
+returns-2 : tie.Need-returns-2
+returns-2 c =
+    let put = c .before .before in
+    let n = put .before .before .before .before .before .before .args .n .0 in
+    passed-put _ n (toZ-ofZ w64 n (search needs)) _ _ (put .put-long .ensures)
 
 pub put-varlong-spec : {M : Type 1} → statement M
 put-varlong-spec =
     tie.close
     (tie.spec
-    encode-requires
-    array-share-prefix-bytes
-    slice-aggregate-put
-    put-requires
+    is-one-byte-requires
+    one-byte-requires
+    put-byte-requires
     same-length
-    returns)
+    returns
+    put-long-requires
+    same-length-2
+    returns-2)

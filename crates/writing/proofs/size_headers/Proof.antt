@@ -1,25 +1,25 @@
 -- `writing::size_headers` meets its contract. Assumes nothing.
-use Rattle.writing.proofs.Loops.{rest, sizesOn, header-stop, sizes-start, sizes-turn, sizes-end}
+use Rattle.writing.proofs.Loops.{rest, sizesOn, header-stop, sizes-turn, sizes-end}
 use Rattle.sizes.specs.Sizes.{headersSize, cap, capped}
 use Rattle.asking.specs.Asked.{headerAsked}
 use Rattle.primitives.specs.Step.{mapStep, times}
 use borrow.Author.Needs.{needs}
 use native.Mathlib.Omega.{arith}
-use mathlib.Core.Path.{_≡_}
+use mathlib.Core.Path.{_≡_, refl}
 use Prim.Native.Nat.{_+_, _≤_}
 use Rattle.writing.proofs.size_headers.Statement.{statement}
 use Rattle.writing.proofs.size_headers.Tie as tie
 
 abbrev Inv-loop : tie.InvT-loop
-Inv-loop headers source first count left₀ row₀ sum₀ left row sum =
+Inv-loop headers source first count head left₀ row₀ sum₀ left row sum =
     (rest (headerAsked headers source) (sizesOn headers source) sum left row
-    ≡ mapStep (λ hs. capped (headersSize hs)) (times (headerAsked headers source) count first)) × (row + left ≡ first + count) × (sum ≤ cap)
+    ≡ mapStep (λ hs. capped (head + headersSize hs)) (times (headerAsked headers source) count first)) × (row + left ≡ first + count) × (sum ≤ cap)
 
 abbrev μ-loop : tie.MeasureT-loop
-μ-loop headers source first count left₀ row₀ sum₀ left row sum = left
+μ-loop headers source first count head left₀ row₀ sum₀ left row sum = left
 
 loop-holds : tie.Need-loop-holds Inv-loop μ-loop
-loop-holds c = (sizes-start _ _ _ _, omega arith, omega arith)
+loop-holds c = (refl, omega arith, c .before .pre .1)
 
 header-asked-requires : tie.Need-header-asked-requires Inv-loop μ-loop
 header-asked-requires c κs = omega arith
