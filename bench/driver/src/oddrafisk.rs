@@ -1,4 +1,4 @@
-//! The functions of liboddrafisk.a that are measured, as bindings/c/oddrafisk.h declares them.
+//! The functions of liboddrafisk.a that are measured.
 //!
 //! Each call is right for the same reason: a slice or an array is a pointer that is aligned and not null, to as many
 //! elements as are said, and what is borrowed mutably overlaps nothing else.
@@ -14,35 +14,9 @@ pub const HEADER_ROW: usize = 4;
 
 pub const ACCEPTED: u32 = 0;
 
-mod raw {
-    extern "C" {
-        pub fn oddrafisk_check(bytes: *const u8, bytes_count: usize, answer: *mut i64) -> u32;
-        pub fn oddrafisk_read(
-            bytes: *const u8,
-            bytes_count: usize,
-            records: *mut i64,
-            records_count: usize,
-            headers: *mut i64,
-            headers_count: usize,
-            answer: *mut i64,
-        ) -> u32;
-        pub fn oddrafisk_write(
-            batch: *const i64,
-            codec: i64,
-            records: *const i64,
-            records_count: usize,
-            headers: *const i64,
-            headers_count: usize,
-            source: *const u8,
-            source_count: usize,
-            output: *mut u8,
-            output_count: usize,
-            answer: *mut i64,
-        ) -> u32;
-        pub fn oddrafisk_is_canonical(bytes: *const u8, bytes_count: usize) -> u32;
-        pub fn oddrafisk_crc32c(bytes: *const u8, bytes_count: usize) -> u32;
-    }
-}
+#[path = "../../../bindings/rust/src/c.rs"]
+#[allow(dead_code)]
+mod c;
 
 /// Both tables, of records and of headers.
 #[derive(Clone)]
@@ -53,13 +27,13 @@ pub struct Tables {
 
 pub fn check(bytes: &[u8], answer: &mut [i64; ENTRIES]) -> u32 {
     // SAFETY: as said at the top.
-    unsafe { raw::oddrafisk_check(bytes.as_ptr(), bytes.len(), answer.as_mut_ptr()) }
+    unsafe { c::oddrafisk_check(bytes.as_ptr(), bytes.len(), answer.as_mut_ptr()) }
 }
 
 pub fn read(bytes: &[u8], tables: &mut Tables, answer: &mut [i64; ENTRIES]) -> u32 {
     // SAFETY: as said at the top.
     unsafe {
-        raw::oddrafisk_read(
+        c::oddrafisk_read(
             bytes.as_ptr(),
             bytes.len(),
             tables.records.as_mut_ptr(),
@@ -81,7 +55,7 @@ pub fn write(
 ) -> u32 {
     // SAFETY: as said at the top.
     unsafe {
-        raw::oddrafisk_write(
+        c::oddrafisk_write(
             batch.as_ptr(),
             codec,
             tables.records.as_ptr(),
@@ -99,10 +73,10 @@ pub fn write(
 
 pub fn is_canonical(bytes: &[u8]) -> bool {
     // SAFETY: as said at the top.
-    unsafe { raw::oddrafisk_is_canonical(bytes.as_ptr(), bytes.len()) == 1 }
+    unsafe { c::oddrafisk_is_canonical(bytes.as_ptr(), bytes.len()) == 1 }
 }
 
 pub fn crc32c(bytes: &[u8]) -> u32 {
     // SAFETY: as said at the top.
-    unsafe { raw::oddrafisk_crc32c(bytes.as_ptr(), bytes.len()) }
+    unsafe { c::oddrafisk_crc32c(bytes.as_ptr(), bytes.len()) }
 }

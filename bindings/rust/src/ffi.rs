@@ -1,10 +1,12 @@
-//! The C interface as safe functions: the one module with `unsafe` in it. `bindings/c/oddrafisk.h`
-//! has the rules, and the names here are the header's.
+//! The C interface as safe functions: the one module with `unsafe` in it. `c.rs` declares what it
+//! calls, `bindings/c/oddrafisk.h` has the rules, and the names here are the header's.
 //!
 //! What the header asks of a caller is what Rust's references are. A slice is a pointer that is not
 //! null and is aligned, even where it is empty, to as many elements as it says; a `&mut` overlaps
 //! nothing else. The functions keep nothing that they are lent, use no memory but that and their
 //! stack, and answer every value of every parameter.
+
+use crate::c;
 
 #[cfg(not(target_pointer_width = "64"))]
 compile_error!("oddrafisk is for processors with 64-bit addresses");
@@ -51,63 +53,11 @@ pub(crate) struct Asked<'a> {
     pub(crate) source: &'a [u8],
 }
 
-extern "C" {
-    fn oddrafisk_check(bytes: *const u8, bytes_count: usize, answer: *mut Entries) -> u32;
-
-    fn oddrafisk_read(
-        bytes: *const u8,
-        bytes_count: usize,
-        records: *mut i64,
-        records_count: usize,
-        headers: *mut i64,
-        headers_count: usize,
-        answer: *mut Entries,
-    ) -> u32;
-
-    fn oddrafisk_measure(
-        batch: *const Entries,
-        codec: i64,
-        records: *const i64,
-        records_count: usize,
-        headers: *const i64,
-        headers_count: usize,
-        source: *const u8,
-        source_count: usize,
-        answer: *mut [i64; 1],
-    ) -> u32;
-
-    fn oddrafisk_write(
-        batch: *const Entries,
-        codec: i64,
-        records: *const i64,
-        records_count: usize,
-        headers: *const i64,
-        headers_count: usize,
-        source: *const u8,
-        source_count: usize,
-        output: *mut u8,
-        output_count: usize,
-        answer: *mut [i64; 1],
-    ) -> u32;
-
-    fn oddrafisk_is_canonical(bytes: *const u8, bytes_count: usize) -> u32;
-
-    fn oddrafisk_record_time(
-        timestamp_type: i64,
-        first_timestamp: i64,
-        max_timestamp: i64,
-        delta: i64,
-        answer: *mut [i64; 1],
-    ) -> u32;
-
-    fn oddrafisk_crc32c(bytes: *const u8, bytes_count: usize) -> u32;
-}
-
 pub(crate) fn check(bytes: &[u8]) -> (u32, Entries) {
     let mut answer = [0; ENTRIES];
     // SAFETY: `bytes` is a slice, given with its own length, that is only read. `answer` is an
     // array of ENTRIES numbers of this function's own, so that nothing overlaps it.
-    let number = unsafe { oddrafisk_check(bytes.as_ptr(), bytes.len(), &mut answer) };
+    let number = unsafe { c::oddrafisk_check(bytes.as_ptr(), bytes.len(), answer.as_mut_ptr()) };
     (number, answer)
 }
 
@@ -123,14 +73,14 @@ pub(crate) fn read(
     // `&mut` and `answer` is this function's own, so that what is written overlaps nothing. Every
     // `i64` is a valid one, so any row may be stored.
     let number = unsafe {
-        oddrafisk_read(
+        c::oddrafisk_read(
             bytes.as_ptr(),
             bytes.len(),
             records.as_mut_ptr(),
             records.len(),
             headers.as_mut_ptr(),
             headers.len(),
-            &mut answer,
+            answer.as_mut_ptr(),
         )
     };
     (number, answer)
@@ -144,8 +94,8 @@ pub(crate) fn measure(asked: &Asked) -> (u32, i64) {
     // slices, each given with its own length; all are only read. `answer` is an array of one number
     // of this function's own.
     let number = unsafe {
-        oddrafisk_measure(
-            &asked.entries,
+        c::oddrafisk_measure(
+            asked.entries.as_ptr(),
             NO_CODEC,
             records.as_ptr(),
             records.len(),
@@ -153,7 +103,7 @@ pub(crate) fn measure(asked: &Asked) -> (u32, i64) {
             headers.len(),
             asked.source.as_ptr(),
             asked.source.len(),
-            &mut answer,
+            answer.as_mut_ptr(),
         )
     };
     (number, answer[0])
@@ -167,8 +117,8 @@ pub(crate) fn write(asked: &Asked, output: &mut [u8]) -> (u32, i64) {
     // overlaps neither what is asked nor `answer`. Every `u8` is a valid one, so any byte may be
     // stored.
     let number = unsafe {
-        oddrafisk_write(
-            &asked.entries,
+        c::oddrafisk_write(
+            asked.entries.as_ptr(),
             NO_CODEC,
             records.as_ptr(),
             records.len(),
@@ -178,7 +128,7 @@ pub(crate) fn write(asked: &Asked, output: &mut [u8]) -> (u32, i64) {
             asked.source.len(),
             output.as_mut_ptr(),
             output.len(),
-            &mut answer,
+            answer.as_mut_ptr(),
         )
     };
     (number, answer[0])
@@ -186,7 +136,7 @@ pub(crate) fn write(asked: &Asked, output: &mut [u8]) -> (u32, i64) {
 
 pub(crate) fn is_canonical(bytes: &[u8]) -> bool {
     // SAFETY: `bytes` is a slice, given with its own length, that is only read.
-    unsafe { oddrafisk_is_canonical(bytes.as_ptr(), bytes.len()) != 0 }
+    unsafe { c::oddrafisk_is_canonical(bytes.as_ptr(), bytes.len()) != 0 }
 }
 
 pub(crate) fn record_time(
@@ -199,12 +149,12 @@ pub(crate) fn record_time(
     // SAFETY: `answer` is an array of one number of this function's own. All else is given by
     // value.
     let known = unsafe {
-        oddrafisk_record_time(
+        c::oddrafisk_record_time(
             timestamp_type,
             first_timestamp,
             max_timestamp,
             delta,
-            &mut answer,
+            answer.as_mut_ptr(),
         )
     };
     (known != 0).then_some(answer[0])
@@ -212,7 +162,7 @@ pub(crate) fn record_time(
 
 pub(crate) fn crc32c(bytes: &[u8]) -> u32 {
     // SAFETY: `bytes` is a slice, given with its own length, that is only read.
-    unsafe { oddrafisk_crc32c(bytes.as_ptr(), bytes.len()) }
+    unsafe { c::oddrafisk_crc32c(bytes.as_ptr(), bytes.len()) }
 }
 
 #[cfg(test)]

@@ -2,6 +2,7 @@
 #![deny(missing_docs, unsafe_code)]
 
 mod batch;
+mod c;
 #[allow(unsafe_code)]
 mod ffi;
 mod reading;

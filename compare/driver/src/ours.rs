@@ -1,45 +1,8 @@
 //! Oddrafisk by its C interface, bindings/c/oddrafisk.h.
 
-mod c {
-    extern "C" {
-        pub fn oddrafisk_check(bytes: *const u8, bytes_count: usize, answer: *mut i64) -> u32;
-        pub fn oddrafisk_read(
-            bytes: *const u8,
-            bytes_count: usize,
-            records: *mut i64,
-            records_count: usize,
-            headers: *mut i64,
-            headers_count: usize,
-            answer: *mut i64,
-        ) -> u32;
-        pub fn oddrafisk_measure(
-            batch: *const i64,
-            codec: i64,
-            records: *const i64,
-            records_count: usize,
-            headers: *const i64,
-            headers_count: usize,
-            source: *const u8,
-            source_count: usize,
-            answer: *mut i64,
-        ) -> u32;
-        pub fn oddrafisk_write(
-            batch: *const i64,
-            codec: i64,
-            records: *const i64,
-            records_count: usize,
-            headers: *const i64,
-            headers_count: usize,
-            source: *const u8,
-            source_count: usize,
-            output: *mut u8,
-            output_count: usize,
-            answer: *mut i64,
-        ) -> u32;
-        pub fn oddrafisk_is_canonical(bytes: *const u8, bytes_count: usize) -> u32;
-        pub fn oddrafisk_crc32c(bytes: *const u8, bytes_count: usize) -> u32;
-    }
-}
+#[path = "../../../bindings/rust/src/c.rs"]
+#[allow(dead_code)]
+mod c;
 
 /// The places of a batch's entries that are looked at one by one.
 pub const RECORDS: usize = 11;
