@@ -8,11 +8,11 @@ use lib.Dec.{eqb, leb}
 use lib.IntN.{ℤ, pos, negsuc}
 use lib.ListN.{length}
 use Rattle.primitives.specs.Step.{Step, ok, no}
-use Rattle.primitives.specs.Reading.{Span}
+use Rattle.primitives.specs.Reading.{Span, bytesOf}
 use Rattle.primitives.proofs.Picks.{picked}
 use Rattle.primitives.proofs.Steps.{ok-not-no, and-then-ok, pick-ok, times-count}
 use Rattle.utf8.specs.Judgement.{isUtf8}
-use Rattle.records.specs.Judgement.{HeaderSpans, RecordSpans, bytesOf}
+use Rattle.records.specs.Judgement.{HeaderSpans, RecordSpans}
 use Rattle.records.specs.Rows.{Tables}
 use Rattle.asking.specs.Asked.{cell, askedBytes, headerAsked, askedCount, nextRow, RowPlace, rowPlace, recordAsked, recordsAsked}
 

@@ -1,26 +1,26 @@
 -- Rows that the reader stored ask for what was read: each number of a row is the one that was put in, each span lies in
 -- the source, and first header rows run on. Assumes nothing.
-use Prim.Native.Nat.{ℕ, _+_, _/_, _^_, _≤_}
+use Prim.Native.Nat.{ℕ, _+_, _/_, _≤_}
 use mathlib.Core.Path.{_≡_, refl, ap, _∙_, subst}
 use mathlib.Core.Bool.{true}
 use mathlib.Core.Option.{Option, none, some}
 use mathlib.Core.List.{List, [], _∷_, _++_, map}
 use native.Mathlib.Omega.{arith}
 use native.Mathlib.Nat.{add-zero, zero-add, add-assoc}
-use borrow.Author.Tests.{le-leb, lt-ltb, eq-eqb}
+use borrow.Author.Tests.{le-leb, eq-eqb}
 use lib.IntN.{ℤ, pos, negsuc}
 use lib.ListN.{length}
-use Rattle.numbers.specs.Format.{InBits}
+use Rattle.numbers.proofs.InBits.{test-in}
 use Rattle.primitives.specs.Step.{ok, times}
-use Rattle.primitives.specs.Reading.{Span}
+use Rattle.primitives.specs.Reading.{Span, bytesOf}
 use Rattle.primitives.proofs.Steps.{times-onto}
 use Rattle.utf8.proofs.Sequences.{utf8-complete}
-use Rattle.records.specs.Judgement.{HeaderSpans, RecordSpans, bytesOf}
+use Rattle.records.specs.Judgement.{HeaderSpans, RecordSpans, Head}
 use Rattle.records.specs.Rows.{spanRow, headerRow, recordRow, headersIn, recordRows, headerRows, Tables, roomy, withRows}
 use Rattle.records.specs.Statements.{Each}
 use Rattle.records.proofs.Held.{RowHeld, RowsHeld, record-rows-held, header-rows-held, record-rows-there, header-rows-there}
 use Rattle.records.proofs.Inside.{NullOrInside, HeaderInside, RecordInside}
-use Rattle.asking.specs.Asked.{askedBytes, askedNullable, headerAsked, in32, askedCount, headAsked, RowHead, rowPlace, recordAsked, recordsAsked}
+use Rattle.asking.specs.Asked.{askedBytes, askedNullable, headerAsked, askedCount, headAsked, rowPlace, recordAsked, recordsAsked}
 
 -- ---- two numbers of a row
 
@@ -43,10 +43,6 @@ span-row (some x) = refl
 nullable-asked : (s : List ℕ) (x : Option Span) (p : ℕ) → NullOrInside s x → askedNullable (length s) (startOf x) (lengthOf x) p ≡ ok x p
 nullable-asked s none p h = refl
 nullable-asked s (some x) p h = rw (bytes-asked (length s) x p h)
-
-in-32 : (z : ℤ) → InBits 32 z → in32 z ≡ true
-in-32 (pos n) h = lt-ltb n (2 ^ 31) h
-in-32 (negsuc k) h = lt-ltb k (2 ^ 31) h
 
 -- ---- headers
 
@@ -88,11 +84,10 @@ record-row : (first : ℕ) (r : RecordSpans) → recordRow first r ≡ eightOf f
 record-row first r = rw (span-row (r .key), span-row (r .value))
 
 -- what the row itself says of a record
-abbrev headOf : RecordSpans → RowHead
+abbrev headOf : RecordSpans → Head
 headOf r =
     record {
-      timestampDelta = r .timestampDelta;
-      offsetDelta = r .offsetDelta;
+      deltas = record { timestamp = r .timestampDelta; offset = r .offsetDelta };
       key = r .key;
       value = r .value;
       count = length (r .headers);
@@ -113,7 +108,7 @@ module _ (t : Tables) (s : List ℕ) where
         number 5 (omega arith),
         number 6 (omega arith),
         number 7 (omega arith),
-        in-32 (r .offsetDelta) (i .offset),
+        test-in 32 (r .offsetDelta) (i .offset),
         nullable-asked s (r .key) row (i .key),
         nullable-asked s (r .value) row (i .value),
         count-asked (length (t .headers) / 4) first (length (r .headers)) row room,

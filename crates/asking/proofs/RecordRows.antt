@@ -13,6 +13,7 @@ use lib.ListN.{length}
 use mir.Syntax.{w32, w64}
 use mir.Val.{SFits, toZ, ofZ}
 use mir.ValLaws.{toZ-ofZ}
+use Rattle.numbers.specs.Format.{inBits}
 use Rattle.numbers.specs.Pick.{pick}
 use Rattle.primitives.specs.Step.{Step, ok, no, mapStep}
 use Rattle.primitives.specs.Reading.{Span}
@@ -20,29 +21,29 @@ use Rattle.records.specs.Rows.{Tables}
 use Rattle.asking.specs.declared.Asked.{Asked}
 use Rattle.asking.specs.declared.Shown.{Shown}
 use Rattle.asking.specs.declared.CountAsked.{CountAsked}
-use Rattle.asking.specs.Asked.{cell, askedNullable, in32, askedCount, headAsked}
+use Rattle.asking.specs.Asked.{cell, askedNullable, askedCount, headAsked}
 use Rattle.asking.specs.Answers.{spanOf, headOf}
 use Rattle.asking.specs.Numbers.{viewAsked, viewCount}
 
 -- ---- a number of 32 bits
 
 module _ (z : ℤ) (fits : SFits w64 z) where
-  below-32 : ltZ (toZ w64 (ofZ w64 z)) (negsuc 2147483647) ≡ true → in32 z ≡ false
+  below-32 : ltZ (toZ w64 (ofZ w64 z)) (negsuc 2147483647) ≡ true → inBits 32 z ≡ false
   below-32 t = go z (rw (toZ-ofZ w64 z fits) at t)
     where
-      go : (y : ℤ) → ltZ y (negsuc 2147483647) ≡ true → in32 y ≡ false
+      go : (y : ℤ) → ltZ y (negsuc 2147483647) ≡ true → inBits 32 y ≡ false
       go (pos n) e = absurd (subst T (sym e) tt)
       go (negsuc k) e = le-ltb k (2 ^ 31) (omega (arith, ltb-true 2147483647 k e))
 
-  above-32 : ltZ (pos 2147483647) (toZ w64 (ofZ w64 z)) ≡ true → in32 z ≡ false
+  above-32 : ltZ (pos 2147483647) (toZ w64 (ofZ w64 z)) ≡ true → inBits 32 z ≡ false
   above-32 t = go z (rw (toZ-ofZ w64 z fits) at t)
     where
-      go : (y : ℤ) → ltZ (pos 2147483647) y ≡ true → in32 y ≡ false
+      go : (y : ℤ) → ltZ (pos 2147483647) y ≡ true → inBits 32 y ≡ false
       go (pos n) e = le-ltb n (2 ^ 31) (omega (arith, ltb-true 2147483647 n e))
       go (negsuc k) e = absurd (subst T (sym e) tt)
 
   pub record Within32 : Type 0 where
-    pub is : in32 z ≡ true
+    pub is : inBits 32 z ≡ true
     pub narrow : SFits w32 (toZ w64 (ofZ w64 z))
     pub same : toZ w32 (ofZ w32 (toZ w64 (ofZ w64 z))) ≡ z
 
@@ -52,7 +53,7 @@ module _ (z : ℤ) (fits : SFits w64 z) where
       let (is, small) = go z (rw back at t) (rw back at u) in
       record { is = is; narrow = rw back small; same = rw back (toZ-ofZ w32 z small) }
     where
-      go : (y : ℤ) → ltZ y (negsuc 2147483647) ≡ false → ltZ (pos 2147483647) y ≡ false → (in32 y ≡ true) × SFits w32 y
+      go : (y : ℤ) → ltZ y (negsuc 2147483647) ≡ false → ltZ (pos 2147483647) y ≡ false → (inBits 32 y ≡ true) × SFits w32 y
       go (pos n) e f =
           let h = ltb-false 2147483647 n f in
           (lt-ltb n (2 ^ 31) (omega (arith, h)), record { sfits = omega (arith, h) })
@@ -106,7 +107,7 @@ module _ (t : Tables) (s : List ℕ) (row first : ℕ) where
   abbrev Fits : ℕ → Type 0
   Fits k = SFits w64 (number k)
 
-  wide : in32 (number 1) ≡ false → no 21 ≡ headAsked t s row first
+  wide : inBits 32 (number 1) ≡ false → no 21 ≡ headAsked t s row first
   unfolding headAsked
   wide e = rw e refl
 
@@ -123,7 +124,7 @@ module _ (t : Tables) (s : List ℕ) (row first : ℕ) where
       nullable-placed (length s) (number a) (number b) row
       ∙ ap (placed row) (sym (e ∙ (λ i. askedNullable (length s) (toZ-ofZ w64 (number a) f i) (toZ-ofZ w64 (number b) g i) 0)))
 
-  module _ (small : in32 (number 1) ≡ true) (f2 : Fits 2) (f3 : Fits 3) (k : Asked)
+  module _ (small : inBits 32 (number 1) ≡ true) (f2 : Fits 2) (f3 : Fits 3) (k : Asked)
       (e : viewAsked 0 k ≡ askedNullable (length s) (passed 2) (passed 3) 0) where
     key-is : askedNullable (length s) (number 2) (number 3) row ≡ placed row (viewAsked 0 k)
     key-is = at-row 2 3 f2 f3 k e

@@ -10,13 +10,12 @@ use Rattle.numbers.specs.Single.{Single}
 use Rattle.numbers.proofs.Single.{single-value, single-view}
 use Rattle.primitives.specs.Reading.{Span}
 use Rattle.primitives.specs.Step.{Step, ok, no}
-use Rattle.records.specs.Judgement.{HeaderSpans}
+use Rattle.records.specs.Judgement.{HeaderSpans, Head}
 use Rattle.records.specs.Rows.{Tables}
 use Rattle.asking.specs.declared.WriteFault.{WriteFault}
 use Rattle.asking.specs.declared.Shown.{Shown}
 use Rattle.asking.specs.declared.HeaderAsked.{HeaderAsked}
 use Rattle.asking.specs.declared.RecordAsked.{RecordAsked}
-use Rattle.asking.specs.Asked.{RowHead}
 use Rattle.asking.specs.Answers.{writeNumberOf, spanOf, viewHeader, viewRecord}
 use Rattle.asking.specs.Promises.{WriteNumberPromise, HeaderAskedPromise, RecordAskedPromise}
 
@@ -62,12 +61,12 @@ bytes-again : (x : Shown) → bytes (spanOf x) ≡ x
 bytes-again Shown.Null = refl
 bytes-again (Shown.Bytes x) = refl
 
-abbrev row-of : Step ℕ RowHead → RecordAsked
+abbrev row-of : Step ℕ Head → RecordAsked
 row-of (ok h p) =
     RecordAsked.Got
     (record {
-      «timestamp_delta» = h .timestampDelta;
-      «offset_delta» = h .offsetDelta;
+      «timestamp_delta» = h .deltas .timestamp;
+      «offset_delta» = h .deltas .offset;
       key = bytes (h .key);
       value = bytes (h .value);
       headers = h .count;

@@ -6,9 +6,9 @@ use borrow.Author.Tests.{lt-ltb, le-ltb}
 use lib.IntN.{ℤ}
 use lib.ListN.{length}
 use Rattle.primitives.specs.Step.{Step, no}
-use Rattle.records.specs.Judgement.{HeaderSpans}
+use Rattle.records.specs.Judgement.{HeaderSpans, Head}
 use Rattle.records.specs.Rows.{Tables}
-use Rattle.asking.specs.Asked.{headerAsked, headerRowAsked, RowHead, headAsked, headRowAsked}
+use Rattle.asking.specs.Asked.{headerAsked, headerRowAsked, headAsked, headRowAsked}
 
 module _ (t : List ℤ) (s : List ℕ) (row : ℕ) where
   pub no-header : length t / 4 ≤ row → no 21 ≡ headerRowAsked t s row
@@ -31,7 +31,7 @@ module _ (t : Tables) (s : List ℕ) (row first : ℕ) where
   unfolding headRowAsked
   no-record h = rw (le-ltb row (length (t .records) / 8) h) refl
 
-  module _ (there : row < length (t .records) / 8) (x : Step ℕ RowHead) where
+  module _ (there : row < length (t .records) / 8) (x : Step ℕ Head) where
     is-head : headRowAsked t s row first ≡ headAsked t s row first
     unfolding headRowAsked
     is-head = rw (lt-ltb row (length (t .records) / 8) there) refl

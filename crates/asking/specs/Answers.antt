@@ -3,14 +3,13 @@ use Prim.Native.Nat.{ℕ, _+_}
 use mathlib.Core.Option.{Option, none, some}
 use Rattle.primitives.specs.Step.{Step, ok, no}
 use Rattle.primitives.specs.Reading.{Span}
-use Rattle.records.specs.Judgement.{HeaderSpans}
+use Rattle.records.specs.Judgement.{HeaderSpans, Head}
 use Rattle.asking.specs.declared.WriteFault.{WriteFault}
 use Rattle.asking.specs.declared.Shown.{Shown}
 use Rattle.asking.specs.declared.AskedHeader.{AskedHeader}
 use Rattle.asking.specs.declared.HeaderAsked.{HeaderAsked}
 use Rattle.asking.specs.declared.AskedRecord.{AskedRecord}
 use Rattle.asking.specs.declared.RecordAsked.{RecordAsked}
-use Rattle.asking.specs.Asked.{RowHead}
 
 -- document 01, Writer's numbers
 abbrev pub writeNumberOf : WriteFault → ℕ
@@ -39,16 +38,15 @@ viewHeader row (HeaderAsked.Refused f) = no (writeNumberOf f)
 
 -- ---- a record's row; its headers have rows of their own
 
-abbrev pub headOf : AskedRecord → RowHead
+abbrev pub headOf : AskedRecord → Head
 headOf r =
     record {
-      timestampDelta = r .«timestamp_delta»;
-      offsetDelta = r .«offset_delta»;
+      deltas = record { timestamp = r .«timestamp_delta»; offset = r .«offset_delta» };
       key = spanOf (r .key);
       value = spanOf (r .value);
       count = r .headers;
     }
 
-abbrev pub viewRecord : ℕ → RecordAsked → Step ℕ RowHead
+abbrev pub viewRecord : ℕ → RecordAsked → Step ℕ Head
 viewRecord row (RecordAsked.Got r) = ok (headOf r) row
 viewRecord row RecordAsked.Wrong = no 21

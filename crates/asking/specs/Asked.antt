@@ -1,17 +1,17 @@
 -- What rows ask to be written: document 01, Tables, and Writer's numbers, 21 and 22. Rows are read in their order, each
 -- record before its headers, and the first that is wrong gives the number.
-use Prim.Native.Nat.{ℕ, zero, suc, _+_, _*_, _/_, _^_}
-use mathlib.Core.Bool.{Bool}
+use Prim.Native.Nat.{ℕ, zero, suc, _+_, _*_, _/_}
 use mathlib.Core.Option.{Option, none, some}
 use mathlib.Core.List.{List}
 use lib.Dec.{eqb, leb, ltb}
 use lib.IntN.{ℤ, pos, negsuc}
 use lib.ListN.{length, getD}
+use Rattle.numbers.specs.Format.{inBits}
 use Rattle.numbers.specs.Pick.{pick}
 use Rattle.primitives.specs.Step.{Step, ok, no, andThen, mapStep, times}
-use Rattle.primitives.specs.Reading.{Span}
+use Rattle.primitives.specs.Reading.{Span, bytesOf}
 use Rattle.utf8.specs.Judgement.{isUtf8}
-use Rattle.records.specs.Judgement.{HeaderSpans, RecordSpans, bytesOf}
+use Rattle.records.specs.Judgement.{HeaderSpans, RecordSpans, Head, withHeaders}
 use Rattle.records.specs.Rows.{Tables}
 
 -- number k of a row of a table whose rows have w
@@ -48,11 +48,6 @@ headerRowAsked t s row = pick (ltb row (length t / 4)) (headerAsked t s row) (no
 
 -- ---- a record's row
 
--- whether a number is one of 32 bits
-abbrev pub in32 : ℤ → Bool
-in32 (pos n) = ltb n (2 ^ 31)
-in32 (negsuc k) = ltb k (2 ^ 31)
-
 -- first header row and header count: the headers run on from those before, and lie within the table's whole rows
 abbrev pub askedCount : ℕ → ℕ → ℤ → ℤ → ℕ → Step ℕ ℕ
 askedCount rows first (pos named) (pos n) p =
@@ -61,30 +56,19 @@ askedCount rows first (pos named) (negsuc k) p = no 21
 askedCount rows first (negsuc k) n p = no 21
 
 -- what the row itself says
-pub record RowHead : Type 0 where
-  pub timestampDelta : ℤ
-  pub offsetDelta : ℤ
-  pub key : Option Span
-  pub value : Option Span
-  pub count : ℕ
-
-unfoldable pub headAsked : Tables → List ℕ → ℕ → ℕ → Step ℕ RowHead
+unfoldable pub headAsked : Tables → List ℕ → ℕ → ℕ → Step ℕ Head
 headAsked t s row first =
     let number : ℕ → ℤ = cell 8 (t .records) row in
-    pick (in32 (number 1))
+    pick (inBits 32 (number 1))
     (andThen (askedNullable (length s) (number 2) (number 3) row) (λ k _.
     andThen (askedNullable (length s) (number 4) (number 5) row) (λ v _.
-    mapStep (λ n. record { timestampDelta = number 0; offsetDelta = number 1; key = k; value = v; count = n })
+    mapStep (λ n. record { deltas = record { timestamp = number 0; offset = number 1 }; key = k; value = v; count = n })
     (askedCount (length (t .headers) / 4) first (number 6) (number 7) row))))
     (no 21)
 
 -- a row that the table does not have is 21
-unfoldable pub headRowAsked : Tables → List ℕ → ℕ → ℕ → Step ℕ RowHead
+unfoldable pub headRowAsked : Tables → List ℕ → ℕ → ℕ → Step ℕ Head
 headRowAsked t s row first = pick (ltb row (length (t .records) / 8)) (headAsked t s row first) (no 21)
-
-abbrev pub withHeaders : RowHead → List HeaderSpans → RecordSpans
-withHeaders h hs =
-    record { timestampDelta = h .timestampDelta; offsetDelta = h .offsetDelta; key = h .key; value = h .value; headers = hs }
 
 -- a record's row, and the header row from which its headers stand
 pub record RowPlace : Type 0 where

@@ -5,6 +5,7 @@ use mathlib.Core.Path.{sym, subst}
 use mathlib.Core.Bool.{Bool}
 use mathlib.Core.List.{List, [], _∷_}
 use Rattle.numbers.specs.Bytes.{Bytes}
+use Rattle.numbers.specs.Concat.{concat}
 use Rattle.numbers.proofs.AllBytes.{no-bytes, joined-bytes, unsigned-bytes, integer-bytes}
 use Rattle.records.specs.Format.{Record}
 use Rattle.records.specs.Judgement.{RecordSpans}
@@ -12,7 +13,7 @@ use Rattle.records.specs.Statements.{Each}
 use Rattle.records.proofs.AllBytes.{records-bytes, shown-of-bytes}
 use Rattle.layout.specs.Table.{uncountedFields, uncheckedFields, checkedFields}
 use Rattle.layout.specs.Batch.{Content, control, records, Batch}
-use Rattle.layout.specs.Format.{concat, ContentBytes, BatchBytes}
+use Rattle.layout.specs.Format.{ContentBytes, BatchBytes}
 use Rattle.batches.specs.Placed.{shownContent}
 
 pub concat-bytes : (xs : List (List ℕ)) → Each Bytes xs → Bytes (concat xs)

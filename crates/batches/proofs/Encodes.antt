@@ -9,6 +9,7 @@ use native.Mathlib.Omega.{arith}
 use lib.IntN.{pos}
 use lib.ListN.{length, length-append}
 use Rattle.numbers.specs.Bytes.{Bytes}
+use Rattle.numbers.specs.Concat.{concat}
 use Rattle.numbers.specs.Format.{bigEndian}
 use Rattle.numbers.proofs.Integers.{big-endian-length}
 use Rattle.numbers.proofs.AllBytes.{joined-bytes, big-endian-bytes}
@@ -22,7 +23,7 @@ use Rattle.records.specs.Written.{writtenFields, writtenRecord, writtenRecords}
 use Rattle.records.proofs.Encodes.{written-length, run-encodes}
 use Rattle.layout.specs.Table.{FixedFields, unchecked, fixedChecked, uncheckedFields, checkedFields}
 use Rattle.layout.specs.Batch.{Fields, Content, control, records, Batch}
-use Rattle.layout.specs.Format.{concat, attributesOf, howMany, Counts, ContentBytes, BatchBytes}
+use Rattle.layout.specs.Format.{attributesOf, howMany, Counts, ContentBytes, BatchBytes}
 use Rattle.layout.proofs.Flags.{timestamp-small, bit-small, control-small}
 use Rattle.markers.proofs.Encodes.{marker-encodes}
 use Rattle.batches.specs.Placed.{shownContent}

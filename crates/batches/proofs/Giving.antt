@@ -15,6 +15,7 @@ use mir.Syntax.{w32}
 use mir.Val.{toZ}
 use mir.ValLaws.{toZ-pos}
 use Rattle.numbers.specs.Pick.{pick}
+use Rattle.numbers.specs.Concat.{concat}
 use Rattle.numbers.specs.Promises.{PutPromise}
 use Rattle.numbers.proofs.Integers.{big-endian-length}
 use Rattle.numbers.proofs.Pens.{put-emits, emit-inside}
@@ -36,22 +37,17 @@ use Rattle.writing.specs.Answers.{Answer, writes, refuses, viewWritten, Given, 
 use Rattle.writing.specs.Promises.{WriteOutcome, WriteBy}
 use Rattle.writing.proofs.Outcomes.{numbers, apart, given-same, put, over-length}
 use Rattle.layout.specs.Table.{uncounted, unchecked, fixedChecked, fixedPart}
-use Rattle.layout.specs.Batch.{Fields, Marker, Content, control, records, Batch}
-use Rattle.layout.specs.Format.{concat, bit, controlBit, attributesOf, howMany}
-use Rattle.layout.specs.Fixed.{attributesFor, frameBytes, timesBytes, producerBytes, checkedPart, fixedBefore}
+use Rattle.layout.specs.Batch.{Fields, Marker, control, records, Batch}
+use Rattle.layout.specs.Format.{controlBit, attributesFor, attributesOf, howMany}
+use Rattle.layout.specs.Fixed.{frameBytes, timesBytes, producerBytes, checkedPart, fixedBefore}
 use Rattle.layout.proofs.Putting.{fixed-length}
 use Rattle.markers.specs.declared.ControlBatchRecord.{ControlBatchRecord}
 use Rattle.markers.specs.Markers.{writtenMarker, viewMarker}
 use Rattle.batches.specs.declared.ControlBatchOrRecords.{ControlBatchOrRecords}
 use Rattle.batches.specs.Writer.{writtenContent, checkedBytes, batchLengthOf, writtenBatch, mostLength, viewWanted, contentAsked, batchGivenBy, batchGiven}
-use Rattle.batches.proofs.Apart.{controls}
 use Rattle.batches.proofs.Encodes.{many-within, content-length, shows}
 
 -- ---- the fixed fields and the body are the batch
-
-control-bit : {R : Type 0} (c : Content R) → bit (controls c) ≡ controlBit c
-control-bit (control m) = refl
-control-bit (records rs) = refl
 
 module _ (b : Batch Record) where
   abbrev body : List ℕ
@@ -59,17 +55,17 @@ module _ (b : Batch Record) where
 
   -- the attributes and the count, as they are put
   abbrev pub attributesPut : ℤ
-  attributesPut = pos (attributesFor (b .fields) (controls (b .content)))
+  attributesPut = pos (attributesFor (b .fields) (controlBit (b .content)))
 
   abbrev pub countPut : ℤ
   countPut = pos (howMany (b .content))
 
-  attributes-are : attributesFor (b .fields) (controls (b .content)) ≡ attributesOf true 0 b
-  attributes-are = omega (arith, control-bit (b .content))
+  attributes-are : attributesFor (b .fields) (controlBit (b .content)) ≡ attributesOf true 0 b
+  attributes-are = omega arith
 
   checked-is : checkedPart (b .fields) attributesPut countPut ++ body ≡ checkedBytes b
   unfolding checkedBytes timesBytes producerBytes concat
-  checked-is = rw attributes-are (simp (append-assoc, append-nil))
+  checked-is = rw (← attributes-are) (simp (append-assoc, append-nil))
 
   framed : (batchLength crc : ℕ) (checked : List ℕ) → batchLength ≡ batchLengthOf b → crc ≡ crc32c (checkedBytes b) → checked ≡ checkedBytes b
       → frameBytes (b .fields) (pos batchLength) crc ++ checked ≡ writtenBatch b
@@ -149,7 +145,7 @@ module _ (x : Fields) (m : Marker) (out : List ℕ) where
 
   pub marker-written : (out′ : List ℕ) (next : ℕ) (output : List ℕ) → 65 ≤ length out
       → PutPromise (writtenMarker m) out fixedPart (record { next = next; output = out′ })
-      → output ≡ fixedBefore x (pos (65 - uncounted)) (pos (attributesFor x true)) (pos 1) (take (65 - fixedPart) (drop fixedPart out′)) ++ drop fixedPart out′
+      → output ≡ fixedBefore x (pos (65 - uncounted)) (pos (attributesFor x 1)) (pos 1) (take (65 - fixedPart) (drop fixedPart out′)) ++ drop fixedPart out′
       → WriteBy (given (writtenBatch (marks x m))) 0 out (record { result = Written.Bytes 65; output = output })
   unfolding writtenContent
   marker-written out′ next output room put e =
@@ -345,7 +341,7 @@ module _ (x : Fields) (t : Tables) (s : List ℕ) (n : ℕ) (r : Written) (out o
         }
 
     pub rows-written : (output : List ℕ)
-        → output ≡ fixedBefore x (pos (fixedPart + size - uncounted)) (pos (attributesFor x false)) (toZ w32 n) (take (fixedPart + size - fixedPart) (drop fixedPart out′)) ++ drop fixedPart out′
+        → output ≡ fixedBefore x (pos (fixedPart + size - uncounted)) (pos (attributesFor x 0)) (toZ w32 n) (take (fixedPart + size - fixedPart) (drop fixedPart out′)) ++ drop fixedPart out′
         → WriteBy (batchGivenBy x s (mapStep records asked-rows)) 0 out (record { result = Written.Bytes (fixedPart + size); output = output })
     unfolding writtenContent
     rows-written output e =

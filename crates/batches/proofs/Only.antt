@@ -7,6 +7,7 @@ use mathlib.Core.List.{List, [], _∷_, _++_}
 use native.Mathlib.Omega.{arith}
 use lib.IntN.{ℤ, pos}
 use lib.ListN.{length, length-append}
+use Rattle.numbers.specs.Concat.{concat}
 use Rattle.numbers.specs.Format.{bigEndian, complement}
 use Rattle.numbers.proofs.Integers.{unsigned-length, integer-length}
 use Rattle.primitives.proofs.Places.{whole}
@@ -15,7 +16,7 @@ use Rattle.records.specs.Format.{Record}
 use Rattle.records.proofs.Written.{run-written}
 use Rattle.records.proofs.Shortest.{run-shortest}
 use Rattle.layout.specs.Batch.{Content, control, records, Batch}
-use Rattle.layout.specs.Format.{concat, Counts, exactly, ContentBytes, BatchBytes}
+use Rattle.layout.specs.Format.{Counts, exactly, ContentBytes, BatchBytes}
 use Rattle.markers.proofs.Encodes.{marker-written}
 use Rattle.batches.specs.Writer.{writtenContent, checkedBytes, batchLengthOf, writtenBatch, mostLength}
 use Rattle.batches.specs.Rewriting.{WrittenShortest, WrittenOnly}

@@ -8,6 +8,7 @@ use native.Mathlib.Omega.{arith}
 use native.Mathlib.Nat.{add-zero}
 use lib.IntN.{ℤ, pos}
 use lib.ListN.{length}
+use Rattle.numbers.specs.Concat.{concat}
 use Rattle.numbers.specs.Format.{Unsigned, Integer}
 use Rattle.numbers.proofs.Integers.{unsigned-length, integer-length}
 use Rattle.primitives.specs.Stands.{Stands}
@@ -18,7 +19,7 @@ use Rattle.crc32c.specs.Crc.{crc32c}
 use Rattle.records.specs.Format.{Record}
 use Rattle.layout.specs.Table.{Slot, table, uncounted, unchecked, fixedPart}
 use Rattle.layout.specs.Batch.{Batch}
-use Rattle.layout.specs.Format.{concat, attributesOf, BatchBytes}
+use Rattle.layout.specs.Format.{attributesOf, BatchBytes}
 use Rattle.opening.specs.Judgement.{unsignedIn, numberIn}
 
 -- ---- fields that stand one after the other: the first, and those after it

@@ -7,6 +7,7 @@ use native.Mathlib.Omega.{arith}
 use native.Mathlib.Nat.{add-zero}
 use lib.ListN.{length, take, drop}
 use Rattle.numbers.specs.Bytes.{Bytes}
+use Rattle.numbers.specs.Concat.{concat}
 use Rattle.numbers.specs.Format.{Unsigned, Integer}
 use Rattle.primitives.specs.Step.{ok}
 use Rattle.primitives.specs.Stands.{Stands, Encoding}
@@ -14,7 +15,6 @@ use Rattle.primitives.specs.Reading.{integerAt}
 use Rattle.primitives.proofs.Integers.{unsigned-in, unsigned-sound, integer-sound}
 use Rattle.primitives.proofs.Places.{nothing, shows, joined}
 use Rattle.layout.specs.Table.{FixedFields, Slot, table, uncounted, unchecked, fixedPart, uncountedFields, uncheckedFields, checkedFields}
-use Rattle.layout.specs.Format.{concat}
 use Rattle.layout.specs.Statements.{RunOn}
 use Rattle.layout.proofs.Table.{table-runs-on}
 use Rattle.opening.specs.Judgement.{unsignedIn, numberIn}

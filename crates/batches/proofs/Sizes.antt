@@ -6,12 +6,13 @@ use mathlib.Core.Bool.{Bool, false}
 use mathlib.Core.List.{List, _++_}
 use native.Mathlib.Omega.{arith}
 use lib.ListN.{length, length-append}
+use Rattle.numbers.specs.Concat.{concat}
 use Rattle.numbers.proofs.Integers.{unsigned-length, integer-length}
 use Rattle.records.specs.Format.{Record}
 use Rattle.records.proofs.Sizes.{total-sizes}
 use Rattle.layout.specs.Table.{fixedPart, uncountedFields, uncheckedFields}
 use Rattle.layout.specs.Batch.{Content, control, records, Batch}
-use Rattle.layout.specs.Format.{concat, ContentBytes, BatchBytes}
+use Rattle.layout.specs.Format.{ContentBytes, BatchBytes}
 use Rattle.opening.specs.Judgement.{Accepted, bareMarkerAt}
 use Rattle.batches.specs.Placed.{shownContent}
 use Rattle.batches.specs.Statements.{SizesOf, Sizes}

@@ -14,6 +14,7 @@ use lib.ListN.{length, take, length-map}
 use lib.Seq.{length-take-le}
 use Rattle.numbers.specs.Bytes.{Bytes}
 use Rattle.numbers.specs.Pick.{pick}
+use Rattle.numbers.specs.Concat.{concat}
 use Rattle.numbers.specs.Format.{Unsigned, Integer}
 use Rattle.primitives.specs.Step.{ok, no, andThen}
 use Rattle.primitives.specs.Stands.{Stands, Encoding}
@@ -31,7 +32,7 @@ use Rattle.records.proofs.Shows.{records-shows}
 use Rattle.records.proofs.Sound.{records-sound}
 use Rattle.layout.specs.Table.{Slot, table, uncountedFields, uncheckedFields, checkedFields}
 use Rattle.layout.specs.Batch.{Marker, abort, commit, Content, control, records, Batch}
-use Rattle.layout.specs.Format.{concat, bit, controlBit, howMany, Counts, markerType, MarkerBytes, ContentBytes, BatchBytes}
+use Rattle.layout.specs.Format.{bit, controlBit, howMany, Counts, markerType, MarkerBytes, ContentBytes, BatchBytes}
 use Rattle.opening.specs.Judgement.{Accepted, unsignedIn, numberIn, attributesIn, fieldsIn, is, contentAt, markerOf, endedAt, bareMarkerAt}
 use Rattle.opening.proofs.Tests.{Says, is-true}
 use Rattle.batches.specs.Placed.{placedContent, placedBatch, shownContent, shownBatch}

@@ -1,12 +1,11 @@
 -- What each public answer says, case by case: document 01's number, and the values that it names.
-use Prim.Native.Nat.{ℕ, _+_, _/_, _≤_}
-use mathlib.Core.Bool.{Bool, true, false}
+use Prim.Native.Nat.{ℕ, _/_, _≤_}
+use mathlib.Core.Bool.{Bool, true}
 use mathlib.Core.Option.{Option, none, some}
-use lib.Dec.{leb}
 use lib.ListN.{length}
 use Rattle.numbers.specs.Pick.{pick}
 use Rattle.records.specs.Judgement.{RecordSpans}
-use Rattle.records.specs.Rows.{headersIn, Tables, withRows}
+use Rattle.records.specs.Rows.{headersIn, Tables, enoughRows, withRows}
 use Rattle.layout.specs.Batch.{Fields, Marker, Content, control, records}
 use Rattle.layout.specs.Fixed.{viewType}
 use Rattle.opening.specs.Answers.{batchNumberOf}
@@ -123,7 +122,7 @@ roomsOf t = record { records = length (t .records) / 8; headers = length (t .hea
 -- a marker needs no rows
 abbrev pub hasRoom : Content RecordSpans → ℕ → Rooms → Bool
 hasRoom (control m) first r = true
-hasRoom (records rs) first r = pick (leb (length rs) (r .records)) (leb (first + headersIn rs) (r .headers)) false
+hasRoom (records rs) first r = enoughRows (r .records) (r .headers) first rs
 
 -- document 01, Reader's numbers, 14
 abbrev pub answerOf : Judgement → Rooms → Answer

@@ -1,14 +1,15 @@
 -- Demand 3. The user's words, sentence by sentence, each followed by its statement. What proves each stands in proofs/
 -- under the statement's name in small letters: `stands : Stands`.
 --
--- The words that are used: `judge` (Judgement.antt) is what document 01 answers where rows are enough, which is demand
--- 2's answer (Statements.antt joins it to Kafka's format). `ReadPromise` (Promises.antt) is what `RecordBatch::read`
--- promises on some bytes and some tables: its result, and both tables at exit. A result says document 01's number and
--- the values named with it (`viewRead`, Answers.antt). A longer beginning is `s ++ after`.
+-- The words that are used: `judge` (crates/opening/specs/Judgement.antt) is what document 01 answers where rows are
+-- enough, which is demand 2's answer (Statements.antt joins it to Kafka's format). `ReadPromise` (Promises.antt) is
+-- what `RecordBatch::read` promises on some bytes and some tables: its result, and both tables at exit. A result says
+-- document 01's number and the values named with it (`viewRead`, Answers.antt). A longer beginning is `s ++ after`.
 --
--- Each sentence is a statement of a judging function, and is then claimed for `judge`, the public reader's, and for
--- every way of reading control batches, every place of the batch's first byte and every row of its first header. (Where a
--- number names the answer, the way is one that refuses by none but 2 to 13: `Within`, Statements.antt.)
+-- Of the first three sentences each is a statement of a judging function, and is then claimed for `judge`, the public
+-- reader's, and for every way of reading control batches, every place of the batch's first byte and every row of its
+-- first header. (Where a number names the answer, the way is one that refuses by none but 2 to 13: `Within`,
+-- Statements.antt.) The last sentence is of the public reader and the public writer.
 use Prim.Native.Nat.{ℕ, _+_, _/_, _<_, _≤_}
 use mathlib.Core.Path.{_≡_}
 use mathlib.Core.Bool.{false}
@@ -98,8 +99,8 @@ NoRoomStands = NoRoomStandsBy judge
 abbrev pub NoRoomStandsWith : Type 0
 NoRoomStandsWith = (way : Control) (at first : ℕ) → NoRoomStandsBy (λ s. judgeWith way s at first)
 
--- Document 01: "Numbers 2 to 13 never depend on room. Every refusal changes no table". An answer 1 to 13 is the same for
--- every pair of tables, smaller ones too, and leaves them as they are.
+-- Document 01: "Numbers 2 to 13 never depend on room. Every refusal changes no table". An answer 1 to 13 is the same
+-- for every pair of tables, smaller ones too, and leaves them as they are.
 abbrev RoomFreeBy : Judging → Type 0
 RoomFreeBy judging =
     (s : List ℕ) (t t′ : Tables) (o o′ : ReadOutcome) → ReadBy (judging s) t o → ReadBy (judging s) t′ o′
@@ -156,8 +157,9 @@ pub record Enough (c : Content RecordSpans) (t : Tables) : Type 0 where
   pub records : recordsIn c ≤ length (t .records) / 8
   pub headers : headersOf c ≤ length (t .headers) / 4
 
--- What is read from the bytes s: the fields that were handed in, as many bytes as were written, and records (or a marker)
--- that show in s what those asked for show in the source: equal deltas, nulls and bytes. Their rows stand in the tables.
+-- What is read from the bytes s: the fields that were handed in, as many bytes as were written, and records (or a
+-- marker) that show in s what those asked for show in the source: equal deltas, nulls and bytes. Their rows stand in
+-- the tables.
 pub record SameBatch (q : Request) (c : Content RecordSpans) (n : ℕ) (s : List ℕ) (t : Tables) (o : ReadOutcome) : Type 0 where
   pub read : Accepted
   pub answered : viewRead (o .result) ≡ acceptedAs read
@@ -166,8 +168,8 @@ pub record SameBatch (q : Request) (c : Content RecordSpans) (n : ℕ) (s : List
   pub content : shownContent s (read .content) ≡ shownContent (q .source) c
   pub consumed : read .consumed ≡ n
 
--- q is what is handed to the writer, o its outcome on an output, o′ the reader's on the bytes written and any after them.
--- (The writer's numbers are of their width, and its source is of bytes: `Sensible`, Rewriting.antt.)
+-- q is what is handed to the writer, o its outcome on an output, o′ the reader's on the bytes written and any after
+-- them. (The writer's numbers are of their width, and its source is of bytes: `Sensible`, Rewriting.antt.)
 abbrev pub ReadsBack : Type 0
 ReadsBack =
     (q : Request) (c : Content RecordSpans) (out : List ℕ) (o : WriteOutcome) (n : ℕ) (after : List ℕ) (t : Tables) (o′ : ReadOutcome)

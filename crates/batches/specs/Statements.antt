@@ -150,8 +150,8 @@ abbrev pub SizesOf : (strict : Bool) (bs : List ℕ) (c : Content Record) → Co
 SizesOf strict bs (control m) g n = n ≡ 53
 SizesOf strict bs (records rs) g n = n ≡ 49 + total (sizes g)
 
--- In an accepted batch of records the sizes of the records as they stand add up to batchLength - 49; with the bare marker
--- batchLength is 53.
+-- In an accepted batch of records the sizes of the records as they stand add up to batchLength - 49; with the bare
+-- marker batchLength is 53.
 abbrev pub Sizes : Type 0
 Sizes =
     (s : List ℕ) (at first : ℕ) (b : Accepted) → Bytes s → judgeAt s at first ≡ accepted b

@@ -7,6 +7,7 @@ use lib.Dec.{eqb, leb}
 use lib.IntN.{pos}
 use lib.ListN.{length, replicate}
 use Rattle.numbers.specs.Pick.{pick}
+use Rattle.numbers.specs.Concat.{concat}
 use Rattle.primitives.specs.Step.{Step, ok, no, mapStep}
 use Rattle.crc32c.specs.Crc.{crc32c}
 use Rattle.records.specs.Format.{Record}
@@ -18,7 +19,7 @@ use Rattle.writing.specs.Answers.{Given, given, refused}
 use Rattle.layout.specs.Fixed.{fixedFields}
 use Rattle.layout.specs.Table.{FixedFields, unchecked, uncountedFields, uncheckedFields, checkedFields}
 use Rattle.layout.specs.Batch.{Fields, Marker, Content, control, records, Batch}
-use Rattle.layout.specs.Format.{concat, attributesOf, howMany}
+use Rattle.layout.specs.Format.{attributesOf, howMany}
 use Rattle.markers.specs.Markers.{writtenMarker, viewMarker}
 use Rattle.batches.specs.declared.ControlBatchOrRecords.{ControlBatchOrRecords}
 use Rattle.batches.specs.Placed.{shownContent}

@@ -9,19 +9,16 @@ use layout::RecordTime;
 use layout::Times;
 use markers::ControlBatchRecord;
 use markers::ControlBatchRecordRead;
-use numbers::Int16;
 use numbers::Int32;
 use numbers::put;
 use opening::BatchFault;
 use opening::Opened;
 use opening::open_at;
 use primitives::Cursor;
-use primitives::Int16Read;
 use reading::RecordsCheck;
 use reading::RecordsRead;
 use reading::check_records;
 use reading::read_records;
-use records::RecordFault;
 use writing::Written;
 use writing::measure_records;
 use writing::write_records;
@@ -36,8 +33,8 @@ ghost use Rattle.writing.specs.Answers.{given};
 ghost use Rattle.writing.specs.Promises.{WriteBy};
 ghost use Rattle.layout.specs.Table.{table, uncounted, fixedPart};
 ghost use Rattle.layout.specs.Batch.{control};
-ghost use Rattle.layout.specs.Format.{bit};
-ghost use Rattle.layout.specs.Fixed.{viewBatchFields, attributesFor, fixedBefore};
+ghost use Rattle.layout.specs.Format.{bit, attributesFor};
+ghost use Rattle.layout.specs.Fixed.{viewBatchFields, fixedBefore};
 ghost use Rattle.opening.specs.Judgement.{bareMarkerAt, judgeAt};
 ghost use Rattle.opening.specs.Opened.{judgedAs};
 ghost use Rattle.markers.specs.Markers.{viewMarker};
@@ -382,7 +379,7 @@ impl RecordBatch {
     // Puts the fixed fields in front of a body, which stands in its place in the output and ends at `end`.
     fn finish(self, is_control: bool, count: Int32, end: usize, output: &mut [u8])
         requires { ⌜ (fixedPart ≤ end) × (end ≤ uncounted + mostLength) × (end ≤ length (now output)) ⌝ }
-        ensures { λ r. ⌜ now (output .exit) ≡ fixedBefore (viewFields self) (pos (end - uncounted)) (pos (attributesFor (viewFields self) «is_control»)) (count .0) (take (end - fixedPart) (drop fixedPart (now (output .entry)))) ++ drop fixedPart (now (output .entry)) ⌝ }
+        ensures { λ r. ⌜ now (output .exit) ≡ fixedBefore (viewFields self) (pos (end - uncounted)) (pos (attributesFor (viewFields self) (bit «is_control»))) (count .0) (take (end - fixedPart) (drop fixedPart (now (output .entry)))) ++ drop fixedPart (now (output .entry)) ⌝ }
     {
         let fields = self.fields();
         let attributes = fields.attributes(is_control);

@@ -2,7 +2,6 @@
 mod folding;
 mod table;
 
-ghost use mathlib.Core.Path.{_≡_};
 ghost use Rattle.crc32c.specs.Promises.{Crc32cPromise, UpdatePromise};
 
 const ONES: u32 = 0xFFFF_FFFF;

@@ -1,6 +1,6 @@
 // Division by a table of half bytes, eight bytes a turn.
 ghost use mathlib.Core.Path.{_≡_};
-ghost use Prim.Native.Nat.{ℕ, _+_, _*_, _%_, _≤_};
+ghost use Prim.Native.Nat.{_+_, _*_, _%_, _≤_};
 ghost use lib.Bits.{bitXor};
 ghost use lib.ListN.{length, getD};
 ghost use Rattle.crc32c.specs.Crc.{steps, over, castagnoli, number};

@@ -12,13 +12,14 @@ use mir.Val.{SFits, toZ, ofZ}
 use mir.ValLaws.{toZ-pos, toZ-ofZ}
 use Rattle.numbers.specs.Format.{bigEndian}
 use Rattle.numbers.specs.Pen.{Pen, pen, emit}
+use Rattle.numbers.specs.Concat.{concat}
 use Rattle.numbers.proofs.Integers.{big-endian-length}
 use Rattle.numbers.proofs.Pens.{emit-emit, emit-inside, all-put}
 use Rattle.crc32c.specs.Crc.{continued, castagnoli, crc32c}
 use Rattle.crc32c.proofs.Joined.{checksum-joined}
 use Rattle.layout.specs.Table.{fixedChecked, fixedPart}
 use Rattle.layout.specs.Batch.{TimestampType, Fields}
-use Rattle.layout.specs.Format.{concat, timestampBit, bit}
+use Rattle.layout.specs.Format.{timestampBit, bit}
 use Rattle.layout.specs.Fixed.{signed, frameBytes, timesBytes, producerBytes, checkedPart, fixedBytes, fixedBefore}
 use Rattle.layout.specs.Statements.{FixedLength}
 use Rattle.layout.proofs.Flags.{timestamp-small, bit-small}

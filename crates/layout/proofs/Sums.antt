@@ -13,11 +13,12 @@ use lib.Signed.{leZ}
 use mir.Syntax.{w32, w64}
 use mir.Val.{SFits, toZ, ofZ}
 use mir.ValLaws.{toZ-ofZ}
+use Rattle.numbers.specs.Format.{inBits}
 use Rattle.numbers.specs.Pick.{pick}
 use Rattle.numbers.proofs.Signs.{widen-fits, widen-back}
 use Rattle.layout.specs.Table.{uncounted}
 use Rattle.layout.specs.Batch.{Fields}
-use Rattle.layout.specs.Time.{in64, recordTime}
+use Rattle.layout.specs.Time.{recordTime}
 
 -- ---- 12 and batchLength
 
@@ -52,7 +53,7 @@ same-test a b c d f g =
     ]
 
 -- a difference of natural numbers that is of 64 bits
-between : (a b : ℕ) → a < 2 ^ 63 + b → b ≤ 2 ^ 63 → in64 (subℕ a b) ≡ true
+between : (a b : ℕ) → a < 2 ^ 63 + b → b ≤ 2 ^ 63 → inBits 64 (subℕ a b) ≡ true
 between a b h g =
     elim (decLt a b) [
       | yes l ↦ rw (lt-ltb a b l) (lt-ltb (b - suc a) (2 ^ 63) (omega arith))
@@ -64,11 +65,11 @@ up : (m : ℕ) → m < 2 ^ 63 → pos 9223372036854775807 -ℤ pos m ≡ pos (92
 up zero h = refl
 up (suc m) h = rw (le-ltb 9223372036854775807 (suc m) (omega arith))
 
-fits-up : (a : ℤ) (m : ℕ) → SFits w64 a → m < 2 ^ 63 → leZ a (pos (9223372036854775807 - m)) ≡ in64 (a +ℤ pos m)
+fits-up : (a : ℤ) (m : ℕ) → SFits w64 a → m < 2 ^ 63 → leZ a (pos (9223372036854775807 - m)) ≡ inBits 64 (a +ℤ pos m)
 fits-up (pos n) m f h = same-test n (9223372036854775807 - m) (n + m) (2 ^ 63) (λ l. omega arith) (λ l. omega arith)
 fits-up (negsuc j) m f h = sym (between m (suc j) (omega arith) (omega (arith, f .sfits)))
 
-fits-down : (a : ℤ) (k : ℕ) → SFits w64 a → k < 2 ^ 63 → leZ (subℕ (suc k) (suc 9223372036854775807)) a ≡ in64 (a +ℤ negsuc k)
+fits-down : (a : ℤ) (k : ℕ) → SFits w64 a → k < 2 ^ 63 → leZ (subℕ (suc k) (suc 9223372036854775807)) a ≡ inBits 64 (a +ℤ negsuc k)
 fits-down a k f h =
     elim (decLt (suc k) (suc 9223372036854775807)) [
       | yes l ↦ rw (lt-ltb (suc k) (suc 9223372036854775807) l) (from-below a k f h l)
@@ -76,57 +77,57 @@ fits-down a k f h =
     ]
   where
     from-below : (a : ℤ) (k : ℕ) → SFits w64 a → k < 2 ^ 63 → suc k < suc 9223372036854775807
-        → leZ (negsuc (suc 9223372036854775807 - suc (suc k))) a ≡ in64 (a +ℤ negsuc k)
+        → leZ (negsuc (suc 9223372036854775807 - suc (suc k))) a ≡ inBits 64 (a +ℤ negsuc k)
     from-below (pos n) k f h l = sym (between n (suc k) (omega (arith, f .sfits)) (omega arith))
     from-below (negsuc j) k f h l =
         same-test j (suc 9223372036854775807 - suc (suc k)) (suc (j + k)) (2 ^ 63) (λ i. omega arith) (λ i. omega arith)
 
     from-zero : (a : ℤ) (k : ℕ) → SFits w64 a → k < 2 ^ 63 → 9223372036854775807 ≤ k
-        → leZ (pos (suc k - suc 9223372036854775807)) a ≡ in64 (a +ℤ negsuc k)
+        → leZ (pos (suc k - suc 9223372036854775807)) a ≡ inBits 64 (a +ℤ negsuc k)
     from-zero (pos n) k f h l = le-leb (suc k - suc 9223372036854775807) n (omega arith) ∙ sym (between n (suc k) (omega (arith, f .sfits)) (omega arith))
     from-zero (negsuc j) k f h l = sym (le-ltb (suc (j + k)) (2 ^ 63) (omega arith))
 
-of-64 : (z : ℤ) → in64 z ≡ true → SFits w64 z
+of-64 : (z : ℤ) → inBits 64 z ≡ true → SFits w64 z
 of-64 (pos n) e = record { sfits = ltb-true n (2 ^ 63) e }
 of-64 (negsuc k) e = record { sfits = ltb-true k (2 ^ 63) e }
 
 limit-up : (b : ℤ) → SFits w64 b → leZ (pos 0) b ≡ true
-    → SFits w64 (pos 9223372036854775807 -ℤ b) × ((a : ℤ) → SFits w64 a → leZ a (pos 9223372036854775807 -ℤ b) ≡ in64 (a +ℤ b))
+    → SFits w64 (pos 9223372036854775807 -ℤ b) × ((a : ℤ) → SFits w64 a → leZ a (pos 9223372036854775807 -ℤ b) ≡ inBits 64 (a +ℤ b))
 limit-up (pos m) g h = rw (up m (g .sfits)) (record { sfits = omega arith }, λ a f. fits-up a m f (g .sfits))
 limit-up (negsuc k) g h = absurd (false≢true h)
 
 limit-down : (b : ℤ) → SFits w64 b → leZ (pos 0) b ≡ false
-    → SFits w64 (negsuc 9223372036854775807 -ℤ b) × ((a : ℤ) → SFits w64 a → leZ (negsuc 9223372036854775807 -ℤ b) a ≡ in64 (a +ℤ b))
+    → SFits w64 (negsuc 9223372036854775807 -ℤ b) × ((a : ℤ) → SFits w64 a → leZ (negsuc 9223372036854775807 -ℤ b) a ≡ inBits 64 (a +ℤ b))
 limit-down (pos m) g h = absurd (omega (arith, leb-false 0 m h))
 limit-down (negsuc k) g h = (of-64 (subℕ (suc k) (suc 9223372036854775807)) (between (suc k) (suc 9223372036854775807) (omega (arith, g .sfits)) (omega arith)), λ a f. fits-down a k f (g .sfits))
 
 module _ (a b : ℤ) (f : SFits w64 a) (g : SFits w64 b) where
   module _ (h : leZ (pos 0) (toZ w64 (ofZ w64 b)) ≡ true) where
-    upper : SFits w64 (pos 9223372036854775807 -ℤ b) × ((a : ℤ) → SFits w64 a → leZ a (pos 9223372036854775807 -ℤ b) ≡ in64 (a +ℤ b))
+    upper : SFits w64 (pos 9223372036854775807 -ℤ b) × ((a : ℤ) → SFits w64 a → leZ a (pos 9223372036854775807 -ℤ b) ≡ inBits 64 (a +ℤ b))
     upper = limit-up b g (rw (toZ-ofZ w64 b g) at h)
 
     pub upper-fits : SFits w64 (pos 9223372036854775807 -ℤ toZ w64 (ofZ w64 b))
     upper-fits = rw (toZ-ofZ w64 b g) (upper .0)
 
-    pub upper-tells : leZ (toZ w64 (ofZ w64 a)) (toZ w64 (ofZ w64 (pos 9223372036854775807 -ℤ toZ w64 (ofZ w64 b)))) ≡ in64 (a +ℤ b)
+    pub upper-tells : leZ (toZ w64 (ofZ w64 a)) (toZ w64 (ofZ w64 (pos 9223372036854775807 -ℤ toZ w64 (ofZ w64 b)))) ≡ inBits 64 (a +ℤ b)
     upper-tells =
         rw (toZ-ofZ w64 a f, toZ-ofZ w64 b g) (rw (toZ-ofZ w64 (pos 9223372036854775807 -ℤ b) (upper .0)) (upper .1 a f))
 
   module _ (h : leZ (pos 0) (toZ w64 (ofZ w64 b)) ≡ false) where
-    lower : SFits w64 (negsuc 9223372036854775807 -ℤ b) × ((a : ℤ) → SFits w64 a → leZ (negsuc 9223372036854775807 -ℤ b) a ≡ in64 (a +ℤ b))
+    lower : SFits w64 (negsuc 9223372036854775807 -ℤ b) × ((a : ℤ) → SFits w64 a → leZ (negsuc 9223372036854775807 -ℤ b) a ≡ inBits 64 (a +ℤ b))
     lower = limit-down b g (rw (toZ-ofZ w64 b g) at h)
 
     pub lower-fits : SFits w64 (negsuc 9223372036854775807 -ℤ toZ w64 (ofZ w64 b))
     lower-fits = rw (toZ-ofZ w64 b g) (lower .0)
 
-    pub lower-tells : leZ (toZ w64 (ofZ w64 (negsuc 9223372036854775807 -ℤ toZ w64 (ofZ w64 b)))) (toZ w64 (ofZ w64 a)) ≡ in64 (a +ℤ b)
+    pub lower-tells : leZ (toZ w64 (ofZ w64 (negsuc 9223372036854775807 -ℤ toZ w64 (ofZ w64 b)))) (toZ w64 (ofZ w64 a)) ≡ inBits 64 (a +ℤ b)
     lower-tells =
         rw (toZ-ofZ w64 a f, toZ-ofZ w64 b g) (rw (toZ-ofZ w64 (negsuc 9223372036854775807 -ℤ b) (lower .0)) (lower .1 a f))
 
 -- ---- the time of a record
 
 module _ (x : Fields) (delta : ℤ) (f : SFits w64 (x .firstTimestamp)) (g : SFits w64 delta) (r : Bool)
-    (e : r ≡ in64 (toZ w64 (ofZ w64 (x .firstTimestamp)) +ℤ toZ w64 (ofZ w64 delta))) where
+    (e : r ≡ inBits 64 (toZ w64 (ofZ w64 (x .firstTimestamp)) +ℤ toZ w64 (ofZ w64 delta))) where
   sum-is : toZ w64 (ofZ w64 (x .firstTimestamp)) +ℤ toZ w64 (ofZ w64 delta) ≡ x .firstTimestamp +ℤ delta
   sum-is = λ i. toZ-ofZ w64 (x .firstTimestamp) f i +ℤ toZ-ofZ w64 delta g i
 
@@ -142,4 +143,4 @@ module _ (x : Fields) (delta : ℤ) (f : SFits w64 (x .firstTimestamp)) (g : SFi
     unfolding recordTime
     time-is =
         ap some (toZ-ofZ w64 _ time-fits ∙ sum-is)
-        ∙ ap (λ (t : Bool). pick t (some (x .firstTimestamp +ℤ delta)) none) (sym (not-false r h) ∙ e ∙ ap in64 sum-is)
+        ∙ ap (λ (t : Bool). pick t (some (x .firstTimestamp +ℤ delta)) none) (sym (not-false r h) ∙ e ∙ ap (inBits 64) sum-is)

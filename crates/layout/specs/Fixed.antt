@@ -1,15 +1,14 @@
 -- The fixed fields as they are written, one after the other, with the checksum worked out.
-use Prim.Native.Nat.{ℕ, _+_, _*_}
-use mathlib.Core.Bool.{Bool}
+use Prim.Native.Nat.{ℕ, _*_}
 use mathlib.Core.List.{List, [], _∷_, _++_}
 use lib.IntN.{ℤ, pos}
+use Rattle.numbers.specs.Concat.{concat}
 use Rattle.numbers.specs.Format.{bigEndian, complement}
 use Rattle.crc32c.specs.Crc.{crc32c}
 use Rattle.layout.specs.declared.RecordBatchTimestampType.{RecordBatchTimestampType}
 use Rattle.layout.specs.declared.BatchFields.{BatchFields}
 use Rattle.layout.specs.Table.{FixedFields, table}
 use Rattle.layout.specs.Batch.{TimestampType, createTime, logAppendTime, Fields}
-use Rattle.layout.specs.Format.{concat, timestampBit, bit}
 
 -- ---- what the structs say
 
@@ -37,10 +36,6 @@ viewBatchFields x =
 -- a signed integer of n bytes
 abbrev pub signed : ℕ → ℤ → List ℕ
 signed n z = bigEndian n (complement (8 * n) z)
-
--- the attributes of a batch that is a control batch, or is not
-abbrev pub attributesFor : Fields → Bool → ℕ
-attributesFor x control = 8 * timestampBit (x .timestampType) + 16 * bit (x .transactional) + 32 * bit control
 
 -- the bytes of each fixed field
 abbrev pub fixedFields : Fields → (batchLength : ℤ) (crc : ℕ) (attributes count : ℤ) → FixedFields (List ℕ)

@@ -3,19 +3,15 @@
 use Prim.Native.Nat.{ℕ, _+_, _*_}
 use mathlib.Core.Path.{_≡_}
 use mathlib.Core.Bool.{Bool, true, false}
-use mathlib.Core.List.{List, [], _∷_, _++_}
+use mathlib.Core.List.{List, _++_}
 use lib.IntN.{ℤ, pos, negsuc}
 use lib.ListN.{length}
+use Rattle.numbers.specs.Concat.{concat}
 use Rattle.numbers.specs.Format.{Unsigned, Integer}
 use Rattle.crc32c.specs.Crc.{crc32c}
 use Rattle.records.specs.Format.{Record, RecordsBytes}
 use Rattle.layout.specs.Table.{FixedFields, table, uncountedFields, uncheckedFields, checkedFields}
-use Rattle.layout.specs.Batch.{TimestampType, createTime, logAppendTime, Marker, abort, commit, Content, control, records, Batch}
-
--- bytes one after the other
-unfoldable pub concat : List (List ℕ) → List ℕ
-concat [] = []
-concat (x ∷ rest) = x ++ concat rest
+use Rattle.layout.specs.Batch.{TimestampType, createTime, logAppendTime, Marker, abort, commit, Content, control, records, Fields, Batch}
 
 -- ---- attributes
 
@@ -39,10 +35,12 @@ abbrev pub higherBits : Bool → ℕ → ℕ
 higherBits false n = n
 higherBits true n = 0
 
+-- the bits of the fields, and the control bit
+abbrev pub attributesFor : Fields → ℕ → ℕ
+attributesFor x isControl = 8 * timestampBit (x .timestampType) + 16 * bit (x .transactional) + 32 * isControl
+
 abbrev pub attributesOf : Bool → ℕ → Batch Record → ℕ
-attributesOf strict higher b =
-    8 * timestampBit (b .fields .timestampType) + 16 * bit (b .fields .transactional) + 32 * controlBit (b .content)
-    + 64 * higherBits strict higher
+attributesOf strict higher b = attributesFor (b .fields) (controlBit (b .content)) + 64 * higherBits strict higher
 
 -- ---- the number of records
 
@@ -79,6 +77,7 @@ ContentBytes strict bs (records rs) = RecordsBytes strict bs rs
 
 -- Kafka, message format, record batch. The checksum is over all that follows it, batchLength is the number of bytes
 -- that follow it.
+-- Exception, as in the Rust: lastOffsetDelta and the timestamps are any integers, whatever the records are.
 pub record BatchBytes (strict : Bool) (bs : List ℕ) (b : Batch Record) : Type 0 where
   pub part : FixedFields (List ℕ)  -- the bytes of each fixed field
   pub body : List ℕ  -- what follows them

@@ -1,5 +1,5 @@
--- What each public function promises of its result, for every input. What is lent is lent to be read: no function here can
--- change it.
+-- What each public function promises of its result, for every input. What is lent is lent to be read: no function here
+-- can change it.
 use Prim.Native.Nat.{ℕ}
 use mathlib.Core.Path.{_≡_}
 use mathlib.Core.Bool.{Bool}
@@ -10,7 +10,8 @@ use Rattle.layout.specs.declared.BatchFields.{BatchFields}
 use Rattle.layout.specs.declared.RecordTime.{RecordTime}
 use Rattle.layout.specs.Table.{uncounted}
 use Rattle.layout.specs.Time.{recordTime, viewTime}
-use Rattle.layout.specs.Fixed.{viewBatchFields, attributesFor, fixedBefore}
+use Rattle.layout.specs.Format.{bit, attributesFor}
+use Rattle.layout.specs.Fixed.{viewBatchFields, fixedBefore}
 
 -- BatchFields::total_size, of any batchLength
 abbrev pub TotalSizePromise : ℤ → ℤ → Type 0
@@ -22,7 +23,7 @@ RecordTimePromise x delta r = viewTime r ≡ recordTime (viewBatchFields x) delt
 
 -- BatchFields::attributes, of a batch that is a control batch, or is not
 abbrev pub AttributesPromise : BatchFields → Bool → Int16 → Type 0
-AttributesPromise x control r = r .0 ≡ pos (attributesFor (viewBatchFields x) control)
+AttributesPromise x control r = r .0 ≡ pos (attributesFor (viewBatchFields x) (bit control))
 
 -- BatchFields::fixed_before, of batchLength, attributes and count as they are put, and of a body
 abbrev pub FixedBeforePromise : BatchFields → (batchLength attributes count : ℤ) → List ℕ → List ℕ → Type 0

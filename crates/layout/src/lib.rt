@@ -9,10 +9,9 @@ use numbers::Uint32;
 use numbers::put;
 ghost use mathlib.Core.Path.{_≡_};
 ghost use lib.IntN.{_+ℤ_};
-ghost use Rattle.numbers.specs.Format.{bigEndian};
+ghost use Rattle.numbers.specs.Format.{bigEndian, inBits};
 ghost use Rattle.numbers.specs.Pen.{pen, emit};
 ghost use Rattle.layout.specs.Format.{timestampBit, bit};
-ghost use Rattle.layout.specs.Time.{in64};
 ghost use Rattle.layout.specs.Fixed.{viewType, viewBatchFields, signed, frameBytes, timesBytes, producerBytes, fixedBytes};
 ghost use Rattle.layout.specs.Promises.{TotalSizePromise, RecordTimePromise, AttributesPromise, FixedBeforePromise};
 
@@ -56,14 +55,16 @@ impl BatchFields {
     pub const UNCOUNTED: usize = 12;
     // What it counts outside the checksum.
     pub const UNCHECKED: usize = 9;
+    // The fixed part that the checksum is over.
+    pub const FIXED_CHECKED: usize = 40;
     // The whole fixed part.
-    pub const FIXED: usize = 61;
+    pub const FIXED: usize = BatchFields::ATTRIBUTES + BatchFields::FIXED_CHECKED;
 
     pub const MAGIC: i8 = 2;
     // The bytes up to the end of the magic, and so the place of the checksum.
     pub const THROUGH_MAGIC: usize = 17;
     // The places of the attributes and of the count.
-    pub const ATTRIBUTES: usize = 21;
+    pub const ATTRIBUTES: usize = BatchFields::UNCOUNTED + BatchFields::UNCHECKED;
 
     pub const COUNT: usize = 57;
 
@@ -164,7 +165,7 @@ const SMALLEST: i64 = -0x8000_0000_0000_0000;
 
 // Whether the sum is a signed number of 64 bits.
 fn sum_fits(a: i64, b: i64) -> bool
-    ensures { λ r. ⌜ r ≡ in64 (a +ℤ b) ⌝ }
+    ensures { λ r. ⌜ r ≡ inBits 64 (a +ℤ b) ⌝ }
 {
     if 0 <= b {
         return a <= LARGEST - b;

@@ -1,5 +1,5 @@
--- What each public function promises of its result and of the output, for every input. Lent bytes are lent to be read: no
--- function here can change them.
+-- What each public function promises of its result and of the output, for every input. Lent bytes are lent to be read:
+-- no function here can change them.
 use Prim.Native.Nat.{ℕ}
 use mathlib.Core.Path.{_≡_}
 use mathlib.Core.Bool.{Bool}

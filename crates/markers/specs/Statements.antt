@@ -1,5 +1,5 @@
--- The laws of markers, each in words and then as a statement. What proves each stands in proofs/ under the statement's name
--- in small letters: `marker-encodes : MarkerEncodes`.
+-- The laws of markers, each in words and then as a statement. What proves each stands in proofs/ under the statement's
+-- name in small letters: `marker-encodes : MarkerEncodes`.
 use Prim.Native.Nat.{ℕ}
 use mathlib.Core.Path.{_≡_}
 use mathlib.Core.List.{List}

@@ -10,10 +10,11 @@ use lib.ListN.{getD}
 use mir.Syntax.{w64}
 use mir.Val.{SFits, toZ, ofZ}
 use mir.ValLaws.{toZ-ofZ}
+use Rattle.numbers.specs.Format.{inBits}
 use Rattle.numbers.specs.Pick.{pick}
 use Rattle.layout.specs.Batch.{TimestampType, Fields}
 use Rattle.opening.specs.Judgement.{is}
-use Rattle.oddrafisk.specs.Entries.{in16, in32, is0or1, widthsFit, flagsFit, fieldsFit, typeOf, flagOf}
+use Rattle.oddrafisk.specs.Entries.{is0or1, widthsFit, flagsFit, fieldsFit, typeOf, flagOf}
 use Rattle.oddrafisk.proofs.Tests.{is-so, is-not, bits-test}
 
 -- ---- a test of a number, as it is handed over
@@ -42,20 +43,20 @@ module _ (e : List ℤ) where
   abbrev entry : ℕ → ℤ
   entry k = getD e k (pos 0)
 
-  module _ (f1 : SFits w64 (getD e 1 (pos 0))) (r1 : Bool) (t1 : r1 ≡ in32 (toZ w64 (ofZ w64 (getD e 1 (pos 0))))) where
+  module _ (f1 : SFits w64 (getD e 1 (pos 0))) (r1 : Bool) (t1 : r1 ≡ inBits 32 (toZ w64 (ofZ w64 (getD e 1 (pos 0))))) where
     pub width-1 : not r1 ≡ true → false ≡ widthsFit e
-    width-1 h = rw (fails in32 (entry 1) f1 r1 t1 h) refl
+    width-1 h = rw (fails (inBits 32) (entry 1) f1 r1 t1 h) refl
 
-    module _ (l1 : not r1 ≡ false) (f2 : SFits w64 (getD e 2 (pos 0))) (r2 : Bool) (t2 : r2 ≡ in32 (toZ w64 (ofZ w64 (getD e 2 (pos 0))))) where
+    module _ (l1 : not r1 ≡ false) (f2 : SFits w64 (getD e 2 (pos 0))) (r2 : Bool) (t2 : r2 ≡ inBits 32 (toZ w64 (ofZ w64 (getD e 2 (pos 0))))) where
       pub width-2 : not r2 ≡ true → false ≡ widthsFit e
-      width-2 h = rw (passes in32 (entry 1) f1 r1 t1 l1, fails in32 (entry 2) f2 r2 t2 h) refl
+      width-2 h = rw (passes (inBits 32) (entry 1) f1 r1 t1 l1, fails (inBits 32) (entry 2) f2 r2 t2 h) refl
 
-      module _ (l2 : not r2 ≡ false) (f3 : SFits w64 (getD e 6 (pos 0))) (r3 : Bool) (t3 : r3 ≡ in16 (toZ w64 (ofZ w64 (getD e 6 (pos 0))))) where
+      module _ (l2 : not r2 ≡ false) (f3 : SFits w64 (getD e 6 (pos 0))) (r3 : Bool) (t3 : r3 ≡ inBits 16 (toZ w64 (ofZ w64 (getD e 6 (pos 0))))) where
         pub width-3 : not r3 ≡ true → false ≡ widthsFit e
-        width-3 h = rw (passes in32 (entry 1) f1 r1 t1 l1, passes in32 (entry 2) f2 r2 t2 l2, fails in16 (entry 6) f3 r3 t3 h) refl
+        width-3 h = rw (passes (inBits 32) (entry 1) f1 r1 t1 l1, passes (inBits 32) (entry 2) f2 r2 t2 l2, fails (inBits 16) (entry 6) f3 r3 t3 h) refl
 
-        pub width-4 : not r3 ≡ false → SFits w64 (getD e 7 (pos 0)) → (r : Bool) → r ≡ in32 (toZ w64 (ofZ w64 (getD e 7 (pos 0)))) → r ≡ widthsFit e
-        width-4 l3 f r t = sym (tested in32 (entry 7) f r t) ∙ sym (rw (passes in32 (entry 1) f1 r1 t1 l1, passes in32 (entry 2) f2 r2 t2 l2, passes in16 (entry 6) f3 r3 t3 l3) refl)
+        pub width-4 : not r3 ≡ false → SFits w64 (getD e 7 (pos 0)) → (r : Bool) → r ≡ inBits 32 (toZ w64 (ofZ w64 (getD e 7 (pos 0)))) → r ≡ widthsFit e
+        width-4 l3 f r t = sym (tested (inBits 32) (entry 7) f r t) ∙ sym (rw (passes (inBits 32) (entry 1) f1 r1 t1 l1, passes (inBits 32) (entry 2) f2 r2 t2 l2, passes (inBits 16) (entry 6) f3 r3 t3 l3) refl)
 
   module _ (f1 : SFits w64 (getD e 8 (pos 0))) (r1 : Bool) (t1 : r1 ≡ is0or1 (toZ w64 (ofZ w64 (getD e 8 (pos 0))))) where
     pub flag-1 : not r1 ≡ true → false ≡ flagsFit e
@@ -86,17 +87,17 @@ both true b h = (refl, h)
 both false b h = let z : _≡_ {A = ℕ} 0 1 = cc in absurd (omega arith)
 
 pub record Widths (e : List ℤ) : Type 0 where
-  pub epoch : in32 (getD e 1 (pos 0)) ≡ true
-  pub delta : in32 (getD e 2 (pos 0)) ≡ true
-  pub producer : in16 (getD e 6 (pos 0)) ≡ true
-  pub sequence : in32 (getD e 7 (pos 0)) ≡ true
+  pub epoch : inBits 32 (getD e 1 (pos 0)) ≡ true
+  pub delta : inBits 32 (getD e 2 (pos 0)) ≡ true
+  pub producer : inBits 16 (getD e 6 (pos 0)) ≡ true
+  pub sequence : inBits 32 (getD e 7 (pos 0)) ≡ true
 
 pub widths : (e : List ℤ) → fieldsFit e ≡ true → Widths e
 widths e h =
     let (w, _) = both (widthsFit e) (flagsFit e) h in
-    let (a, v) = both (in32 (getD e 1 (pos 0))) _ w in
-    let (b, u) = both (in32 (getD e 2 (pos 0))) _ v in
-    let (c, d) = both (in16 (getD e 6 (pos 0))) (in32 (getD e 7 (pos 0))) u in
+    let (a, v) = both (inBits 32 (getD e 1 (pos 0))) _ w in
+    let (b, u) = both (inBits 32 (getD e 2 (pos 0))) _ v in
+    let (c, d) = both (inBits 16 (getD e 6 (pos 0))) (inBits 32 (getD e 7 (pos 0))) u in
     record { epoch = a; delta = b; producer = c; sequence = d }
 
 -- ---- fields that are equal, one by one

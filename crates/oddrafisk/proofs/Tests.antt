@@ -1,5 +1,5 @@
 -- Numbers of 64 bits as the machine tests them: which are of a narrower width, and which number they are. Assumes nothing.
-use Prim.Native.Nat.{ℕ, suc, _-_, _<_, _^_}
+use Prim.Native.Nat.{ℕ, suc, _-_, _*_, _<_, _^_}
 use mathlib.Core.Path.{_≡_, refl, sym, _∙_, subst}
 use mathlib.Core.Bool.{true, false}
 use mathlib.Core.Option.{none, some}
@@ -10,38 +10,41 @@ use lib.Dec.{T, eqb}
 use lib.IntN.{ℤ, pos, negsuc, natAbs}
 use lib.Signed.{ltZ, leZ}
 use mir.Syntax.{Width, w64}
-use mir.Val.{SFits, toZ, ofZ, hbits}
+use mir.Val.{SFits, toZ, ofZ, bytes}
 use mir.ValLaws.{toZ-ofZ}
+use Rattle.numbers.specs.Format.{InBits, inBits}
+use Rattle.numbers.proofs.InBits.{tested-in}
+use Rattle.numbers.proofs.Widths.{sign-bit}
 use Rattle.layout.specs.Batch.{abort, commit, createTime, logAppendTime}
 use Rattle.opening.specs.Judgement.{is}
 use Rattle.batches.specs.Writer.{marker, rows}
-use Rattle.oddrafisk.specs.Entries.{inBits, is0or1, typeOf, rowsOf, kindWanted}
+use Rattle.oddrafisk.specs.Entries.{is0or1, typeOf, rowsOf, kindWanted}
 
 -- ---- widths
 
-module _ (k most : ℕ) (all : suc most ≡ 2 ^ k) (z : ℤ) (fits : SFits w64 z) where
+module _ (k most : ℕ) (all : suc most ≡ 2 ^ (k - 1)) (z : ℤ) (fits : SFits w64 z) where
   pub below : ltZ (toZ w64 (ofZ w64 z)) (negsuc most) ≡ true → false ≡ inBits k z
   below t = go z (rw (toZ-ofZ w64 z fits) at t)
     where
       go : (y : ℤ) → ltZ y (negsuc most) ≡ true → false ≡ inBits k y
       go (pos n) e = absurd (subst T (sym e) tt)
-      go (negsuc j) e = sym (le-ltb j (2 ^ k) (omega (arith, ltb-true most j e, all)))
+      go (negsuc j) e = sym (le-ltb j (2 ^ (k - 1)) (omega (arith, ltb-true most j e, all)))
 
   pub above : ltZ (toZ w64 (ofZ w64 z)) (negsuc most) ≡ false → leZ (toZ w64 (ofZ w64 z)) (pos most) ≡ inBits k z
   above t = rw (toZ-ofZ w64 z fits) (go z (rw (toZ-ofZ w64 z fits) at t))
     where
       go : (y : ℤ) → ltZ y (negsuc most) ≡ false → leZ y (pos most) ≡ inBits k y
-      go (pos n) e = elim (decLe n most) [ yes h ↦ le-leb n most h ∙ sym (lt-ltb n (2 ^ k) (omega (arith, all))) | no h ↦ lt-leb n most (omega arith) ∙ sym (le-ltb n (2 ^ k) (omega (arith, all))) ]
-      go (negsuc j) e = sym (lt-ltb j (2 ^ k) (omega (arith, ltb-false most j e, all)))
+      go (pos n) e = elim (decLe n most) [ yes h ↦ le-leb n most h ∙ sym (lt-ltb n (2 ^ (k - 1)) (omega (arith, all))) | no h ↦ lt-leb n most (omega arith) ∙ sym (le-ltb n (2 ^ (k - 1)) (omega (arith, all))) ]
+      go (negsuc j) e = sym (lt-ltb j (2 ^ (k - 1)) (omega (arith, ltb-false most j e, all)))
 
 -- a number of a narrower width, in that width
-module _ (w : Width) (z : ℤ) (fits : SFits w64 z) (t : inBits (hbits w) z ≡ true) where
+module _ (w : Width) (z : ℤ) (fits : SFits w64 z) (t : inBits (8 * bytes w) z ≡ true) where
   small : SFits w z
-  small = go z t
+  small = go z (tested-in (8 * bytes w) z t)
     where
-      go : (y : ℤ) → inBits (hbits w) y ≡ true → SFits w y
-      go (pos n) e = record { sfits = ltb-true n (2 ^ hbits w) e }
-      go (negsuc j) e = record { sfits = ltb-true j (2 ^ hbits w) e }
+      go : (y : ℤ) → InBits (8 * bytes w) y → SFits w y
+      go (pos n) h = record { sfits = rw (sign-bit w) at h }
+      go (negsuc j) h = record { sfits = rw (sign-bit w) at h }
 
   pub narrow-fits : SFits w (toZ w64 (ofZ w64 z))
   narrow-fits = rw (toZ-ofZ w64 z fits) small

@@ -1,12 +1,11 @@
 -- The sixteen entries of a batch, as programs in other languages see them: the reader answers by them, and the writer
 -- takes them. bindings/c/oddrafisk.h names their places.
-use Prim.Native.Nat.{ℕ, _^_}
 use mathlib.Core.Bool.{Bool, true, false}
 use mathlib.Core.Option.{Option, none, some}
 use mathlib.Core.List.{List, [], _∷_}
-use lib.Dec.{ltb}
 use lib.IntN.{ℤ, pos, negsuc}
 use lib.ListN.{getD}
+use Rattle.numbers.specs.Format.{inBits}
 use Rattle.numbers.specs.Pick.{pick}
 use Rattle.layout.specs.Batch.{TimestampType, createTime, logAppendTime, Fields, abort, commit}
 use Rattle.opening.specs.Judgement.{is}
@@ -58,25 +57,14 @@ entriesOf a =
 
 -- ---- what the writer is asked for
 
--- whether a number is one of as many bits, beside its sign
-abbrev pub inBits : ℕ → ℤ → Bool
-inBits bits (pos n) = ltb n (2 ^ bits)
-inBits bits (negsuc k) = ltb k (2 ^ bits)
-
-abbrev pub in16 : ℤ → Bool
-in16 z = inBits 15 z
-
-abbrev pub in32 : ℤ → Bool
-in32 z = inBits 31 z
-
 abbrev pub is0or1 : ℤ → Bool
 is0or1 z = pick (is 0 z) true (is 1 z)
 
 -- the fields of fewer than 64 bits
 abbrev pub widthsFit : List ℤ → Bool
 widthsFit e =
-    pick (in32 (getD e 1 (pos 0)))
-    (pick (in32 (getD e 2 (pos 0))) (pick (in16 (getD e 6 (pos 0))) (in32 (getD e 7 (pos 0))) false) false) false
+    pick (inBits 32 (getD e 1 (pos 0)))
+    (pick (inBits 32 (getD e 2 (pos 0))) (pick (inBits 16 (getD e 6 (pos 0))) (inBits 32 (getD e 7 (pos 0))) false) false) false
 
 -- type and flag, and the two entries that are 0
 abbrev pub flagsFit : List ℤ → Bool

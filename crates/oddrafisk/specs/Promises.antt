@@ -1,6 +1,6 @@
--- What each function that other languages call promises of its result and of what it is lent to change, for every value of
--- every parameter. Each cites what the layer below promises: the same judgement, the same bytes given. All else is lent to
--- be read: no function here can change it.
+-- What each function that other languages call promises of its result and of what it is lent to change, for every value
+-- of every parameter. Each cites what the layer below promises: the same judgement, the same bytes given. All else is
+-- lent to be read: no function here can change it.
 use Prim.Native.Nat.{ℕ}
 use mathlib.Core.Path.{_≡_}
 use mathlib.Core.Bool.{false}

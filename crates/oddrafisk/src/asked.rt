@@ -6,10 +6,11 @@ use layout::RecordTime;
 use markers::ControlBatchRecord;
 ghost use mathlib.Core.Path.{_≡_};
 ghost use mathlib.Core.Bool.{true};
+ghost use Rattle.numbers.specs.Format.{inBits};
 ghost use Rattle.layout.specs.Fixed.{viewType};
 ghost use Rattle.layout.specs.Time.{viewTime};
 ghost use Rattle.batches.specs.Answers.{viewFields};
-ghost use Rattle.oddrafisk.specs.Entries.{in16, in32, is0or1, widthsFit, flagsFit, fieldsFit, typeOf, fieldsOf, kindWanted, entriesAsked};
+ghost use Rattle.oddrafisk.specs.Entries.{is0or1, widthsFit, flagsFit, fieldsFit, typeOf, fieldsOf, kindWanted, entriesAsked};
 ghost use Rattle.oddrafisk.specs.Promises.{timeFor};
 ghost use Rattle.oddrafisk.specs.Words.{viewAsked, viewKindAsked};
 
@@ -113,7 +114,7 @@ fn flags_fit(entries: &[i64; 16]) -> bool
 }
 
 fn fits_32(n: i64) -> bool
-    ensures { λ r. ⌜ r ≡ in32 n ⌝ }
+    ensures { λ r. ⌜ r ≡ inBits 32 n ⌝ }
 {
     if n < -0x8000_0000 {
         return false;
@@ -122,7 +123,7 @@ fn fits_32(n: i64) -> bool
 }
 
 fn fits_16(n: i64) -> bool
-    ensures { λ r. ⌜ r ≡ in16 n ⌝ }
+    ensures { λ r. ⌜ r ≡ inBits 16 n ⌝ }
 {
     if n < -0x8000 {
         return false;

@@ -1,5 +1,5 @@
--- What each public function promises of its result, for every input. What is lent is lent to be read: no function here can
--- change it.
+-- What each public function promises of its result, for every input. What is lent is lent to be read: no function here
+-- can change it.
 use Prim.Native.Nat.{ℕ}
 use mathlib.Core.Path.{_≡_}
 use mathlib.Core.List.{List}

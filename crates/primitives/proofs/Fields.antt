@@ -20,8 +20,8 @@ use Rattle.primitives.specs.declared.Fault.{Fault}
 use Rattle.primitives.specs.declared.RawRead.{RawRead}
 use Rattle.primitives.specs.Step.{ok, no, mapStep}
 use Rattle.primitives.specs.Reading.{unsignedAt, signedBy, integerAt}
-use Rattle.primitives.specs.Answers.{numberOf, viewRaw}
-use Rattle.primitives.specs.Promises.{Halved}
+use Rattle.primitives.specs.Answers.{numberOf}
+use Rattle.primitives.specs.Words.{viewRaw, Halved}
 use Rattle.primitives.proofs.Integers.{unsigned-sound, signed-low, signed-high}
 
 -- ---- the width of a type: as many bytes, whose numbers its half splits in two

@@ -11,7 +11,6 @@ pub mod Refusing
 pub mod Shifted
 pub mod Single
 pub mod Spans
-pub mod Starred
 pub mod Steps
 pub mod Turns
 pub mod Values

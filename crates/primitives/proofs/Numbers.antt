@@ -14,7 +14,8 @@ use Rattle.primitives.specs.declared.Fault.{Fault}
 use Rattle.primitives.specs.declared.RawRead.{RawRead}
 use Rattle.primitives.specs.Step.{ok, no, mapStep}
 use Rattle.primitives.specs.Reading.{codeAt, full, limit, unzigzag, varintAt}
-use Rattle.primitives.specs.Answers.{numberOf, viewRaw}
+use Rattle.primitives.specs.Answers.{numberOf}
+use Rattle.primitives.specs.Words.{viewRaw}
 use Rattle.primitives.proofs.Codes.{code-below}
 use Rattle.primitives.proofs.Varints.{width-holds, limit-some}
 

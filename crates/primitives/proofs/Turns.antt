@@ -8,7 +8,7 @@ use native.Mathlib.Nat.{mul-add, mul-assoc, add-assoc, mul-le-mul-left, mul-le-m
 use lib.ListN.{length, getD}
 use Rattle.primitives.specs.Step.{Step, ok, no, mapStep}
 use Rattle.primitives.specs.Reading.{codeAt}
-use Rattle.primitives.specs.Promises.{Holds}
+use Rattle.primitives.specs.Words.{Holds}
 use Rattle.primitives.proofs.Codes.{past-is, last-is, beyond-is, end-is, more-is}
 
 -- v and p times a code

@@ -14,7 +14,6 @@ use Rattle.primitives.specs.declared.VarintRead.{VarintRead}
 use Rattle.primitives.specs.declared.VarlongRead.{VarlongRead}
 use Rattle.primitives.specs.declared.LengthRead.{LengthRead}
 use Rattle.primitives.specs.declared.SpanRead.{SpanRead}
-use Rattle.primitives.specs.declared.RawRead.{RawRead}
 use Rattle.primitives.specs.Step.{Step, ok, no}
 use Rattle.primitives.specs.Reading.{Span}
 
@@ -65,7 +64,3 @@ abbrev pub viewSpan : SpanRead → Step ℕ (Option Span)
 viewSpan (SpanRead.Span x c) = ok (some (record { start = x .start; len = x .len })) (c .at)
 viewSpan (SpanRead.Null c) = ok none (c .at)
 viewSpan (SpanRead.Refused f) = no (numberOf f)
-
-abbrev pub viewRaw : RawRead → Step ℕ ℕ
-viewRaw (RawRead.Got v c) = ok v (c .at)
-viewRaw (RawRead.Refused f) = no (numberOf f)

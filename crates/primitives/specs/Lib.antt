@@ -3,6 +3,6 @@ pub mod Stands
 pub mod Reading
 pub mod Shifted
 pub mod Answers
+pub mod Words
 pub mod Promises
-pub mod Starred
 pub mod Statements

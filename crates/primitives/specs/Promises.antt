@@ -1,6 +1,6 @@
 -- What each public function promises of its result, for every input. Lent bytes are lent to be read: no function can
 -- change them, so the outcome is the result alone.
-use Prim.Native.Nat.{ℕ, _*_, _^_, _≤_, _<_}
+use Prim.Native.Nat.{ℕ}
 use mathlib.Core.Path.{_≡_}
 use mathlib.Core.Bool.{Bool}
 use mathlib.Core.List.{List}
@@ -52,13 +52,3 @@ ReadLengthPromise nullable s at r = viewLength r ≡ lengthAt nullable s at
 
 abbrev pub ReadSpanPromise : Bool → List ℕ → ℕ → SpanRead → Type 0
 ReadSpanPromise nullable s at r = viewSpan r ≡ spanAt nullable s at
-
--- what the private functions may count on: a number of a width whose half is given, and a code that fits 64 bits
-pub record Halved (half v : ℕ) : Type 0 where
-  pub some : 0 < half
-  pub half-fits : half ≤ 2 ^ 63
-  pub below : v < 2 * half
-
-pub record Holds (full limit : ℕ) : Type 0 where
-  pub some : 1 < limit
-  pub fits : 128 ^ full * limit ≤ 2 ^ 64

@@ -1,6 +1,6 @@
--- Reading, as functions of a list of bytes and a place in it, in document 01's order and with its numbers:
--- 8 where a field runs past the end, 9 where a number is beyond its limits, 10 where a length is negative.
--- The end of the list is the limit of every field. A place past the end is no fault of its own: a field there runs past.
+-- Reading, as functions of a list of bytes and a place in it, in document 01's order and with its numbers: 8 where a
+-- field runs past the end, 9 where a number is beyond its limits, 10 where a length is negative. The end of the list is
+-- the limit of every field. A place past the end is no fault of its own: a field there runs past.
 use Prim.Native.Nat.{ℕ, zero, suc, _+_, _-_, _*_, _/_, _%_, _^_}
 use mathlib.Core.Bool.{Bool}
 use mathlib.Core.Option.{Option, none, some}
@@ -79,6 +79,9 @@ unfoldable pub spanAt : Bool → List ℕ → ℕ → Step ℕ (Option Span)
 spanAt nullable s at = andThen (lengthAt nullable s at) (spanOf s)
 
 -- the bytes that a span shows
+abbrev pub bytesOf : List ℕ → Span → List ℕ
+bytesOf s x = take (x .len) (drop (x .start) s)
+
 abbrev pub shown : List ℕ → Option Span → Option (List ℕ)
 shown s none = none
-shown s (some x) = some (take (x .len) (drop (x .start) s))
+shown s (some x) = some (bytesOf s x)

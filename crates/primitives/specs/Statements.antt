@@ -4,7 +4,7 @@ use Prim.Native.Nat.{ℕ, _-_, _<_}
 use mathlib.Core.Path.{_≡_}
 use mathlib.Core.Bool.{Bool, false}
 use mathlib.Core.Option.{Option, none, some}
-use mathlib.Core.List.{List, [], _++_, map}
+use mathlib.Core.List.{List, [], _++_}
 use lib.IntN.{ℤ}
 use lib.ListN.{length}
 use Rattle.numbers.specs.Bytes.{Bytes}
@@ -13,7 +13,6 @@ use Rattle.primitives.specs.Step.{ok}
 use Rattle.primitives.specs.Stands.{Stands, Encoding}
 use Rattle.primitives.specs.Reading.{unsignedAt, integerAt, unzigzag, varintAt, Span, spanAt, shown}
 use Rattle.primitives.specs.Shifted.{movedNullable, same, Shifted}
-use Rattle.primitives.specs.Starred.{StarredVarint, starredVarints, readings, expected, rewritten}
 
 -- ---- integers, over the number of bytes
 
@@ -95,12 +94,3 @@ VarintShifted = (w : ℕ) → Shifted same (varintAt w)
 
 abbrev pub SpanShifted : Type 0
 SpanShifted = (nullable : Bool) → Shifted movedNullable (spanAt nullable)
-
--- ---- document 01's starred rows of numbers
-
--- Each row, read at each of its widths, gives its value and its end, or its number; and where the writer gives the
--- row's bytes, they are what it gives for the value.
-abbrev pub StarredVarints : Type 0
-StarredVarints =
-    (map readings starredVarints ≡ map expected starredVarints)
-    × (map rewritten starredVarints ≡ map (λ (r : StarredVarint). r .bytes) starredVarints)

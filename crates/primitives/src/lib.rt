@@ -11,8 +11,8 @@ use numbers::Varlong;
 ghost use mathlib.Core.Path.{_≡_};
 ghost use Prim.Native.Nat.{_≤_};
 ghost use Rattle.primitives.specs.Reading.{unsignedAt, signedBy, codeAt, unzigzag};
-ghost use Rattle.primitives.specs.Answers.{viewRaw};
-ghost use Rattle.primitives.specs.Promises.{NumberPromise, ReadInt8Promise, ReadInt16Promise, ReadInt32Promise, ReadInt64Promise, ReadUint32Promise, ReadUint64Promise, ReadVarintPromise, ReadVarlongPromise, ReadLengthPromise, ReadSpanPromise, Halved, Holds};
+ghost use Rattle.primitives.specs.Promises.{NumberPromise, ReadInt8Promise, ReadInt16Promise, ReadInt32Promise, ReadInt64Promise, ReadUint32Promise, ReadUint64Promise, ReadVarintPromise, ReadVarlongPromise, ReadLengthPromise, ReadSpanPromise};
+ghost use Rattle.primitives.specs.Words.{viewRaw, Halved, Holds};
 
 // A place in lent bytes, which are passed beside it. Fields are read up to the end of the bytes that are passed.
 pub struct Cursor {

@@ -13,8 +13,9 @@ use lib.IntN.{ℤ}
 use lib.ListN.{length, take, drop, length-append, length-map, take-append-drop}
 use lib.Seq.{sets, sets-eq, length-sets, length-take-le, take-at, drop-append-add, drop-drop}
 use Rattle.numbers.specs.Pick.{pick}
+use Rattle.numbers.specs.Concat.{concat}
 use Rattle.records.specs.Judgement.{HeaderSpans, RecordSpans}
-use Rattle.records.specs.Rows.{headerRow, recordRows, headerRows, joined, filled, Tables, roomy, withRows}
+use Rattle.records.specs.Rows.{headerRow, recordRows, headerRows, filled, Tables, roomy, withRows}
 use Rattle.records.proofs.Wide.{Wide, records-wide, headers-wide, records-end, headers-end}
 use Rattle.reading.specs.Walk.{put, putHeaders, putRecord, putRecords}
 
@@ -88,7 +89,7 @@ putRows w t row (numbers ∷ rest) = putRows w (put w t row numbers) (row + 1) r
 
 rows-filled : (w : ℕ) (t : List ℤ) (row : ℕ) (rows : List (List ℤ)) → Wide w rows → (row + length rows) * w ≤ length t
     → putRows w t row rows ≡ filled w row rows t
-unfolding putRows filled joined
+unfolding putRows filled concat
 rows-filled w t row [] wide h = sym (rw (add-zero, take-append-drop))
 rows-filled w t row (numbers ∷ rest) (e, wide) h =
     let n : row + suc (length rest) ≡ row + 1 + length rest = omega arith in

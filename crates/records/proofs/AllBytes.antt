@@ -9,10 +9,10 @@ use lib.ListN.{drop}
 use Rattle.numbers.specs.Bytes.{Bytes}
 use Rattle.numbers.specs.Format.{Nullable}
 use Rattle.numbers.proofs.AllBytes.{no-bytes, joined-bytes, left-bytes, varies-bytes, integer-bytes, sized-bytes}
-use Rattle.primitives.specs.Reading.{Span, shown}
+use Rattle.primitives.specs.Reading.{Span, bytesOf, shown}
 use Rattle.primitives.proofs.Windows.{window-bytes}
-use Rattle.records.specs.Format.{Header, Record, Run, HeaderBytes, Fields, RecordBytes, RecordsBytes}
-use Rattle.records.specs.Judgement.{HeaderSpans, RecordSpans, bytesOf}
+use Rattle.records.specs.Format.{Header, Record, Run, HeaderBytes, FieldsBytes, RecordBytes, RecordsBytes}
+use Rattle.records.specs.Judgement.{HeaderSpans, RecordSpans}
 use Rattle.records.specs.Placed.{shownHeader, shownRecords}
 use Rattle.records.specs.Statements.{Each}
 
@@ -47,7 +47,7 @@ header-bytes : (strict : Bool) (bs : List ℕ) (h : Header) → HeaderBytes stri
 header-bytes strict bs h g b =
     subst Bytes (sym (g .is)) (joined-bytes (g .key) (g .value) (sized-bytes (g .keyed) (b .key)) (sized-bytes (g .valued) (b .value)))
 
-fields-bytes : (strict : Bool) (bs : List ℕ) (r : Record) → Fields strict bs r → OfBytes r → Bytes bs
+fields-bytes : (strict : Bool) (bs : List ℕ) (r : Record) → FieldsBytes strict bs r → OfBytes r → Bytes bs
 fields-bytes strict bs r g b =
     let fromCount = g .count ++ g .headers in
     let fromValue = g .value ++ fromCount in

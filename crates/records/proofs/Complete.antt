@@ -22,7 +22,7 @@ use Rattle.primitives.proofs.Spans.{span-complete}
 use Rattle.primitives.proofs.Windows.{inside}
 use Rattle.utf8.specs.Grammar.{Octets}
 use Rattle.utf8.proofs.Sequences.{utf8-complete}
-use Rattle.records.specs.Format.{Header, Record, Run, HeaderBytes, Fields, RecordBytes}
+use Rattle.records.specs.Format.{Header, Record, Run, HeaderBytes, FieldsBytes, RecordBytes}
 use Rattle.records.specs.Judgement.{countAt, bytesAt, keyAt, headerAt, deltasAt, Head, headAt, fieldsAt, recordAt, runAt, recordsAt}
 use Rattle.records.specs.Placed.{placedBytes, placedNullable, placedHeader, placedRun, keyPlace, valuePlace, headersPlace, placedFields, placedRecord}
 use Rattle.records.specs.Statements.{HeaderComplete, RecordComplete, RunComplete, RecordsComplete, RefusedIsNone}
@@ -78,7 +78,7 @@ header-complete strict s p q bs h x g = (header-reads x g, header-shows x g)
 
 -- ---- a record
 
-abbrev placedHead : {strict : Bool} {bs : List ℕ} {r : Record} → ℕ → Fields strict bs r → Head
+abbrev placedHead : {strict : Bool} {bs : List ℕ} {r : Record} → ℕ → FieldsBytes strict bs r → Head
 placedHead {strict} {r = r} p g =
     record {
       deltas = record { timestamp = r .timestampDelta; offset = r .offsetDelta };
@@ -87,7 +87,7 @@ placedHead {strict} {r = r} p g =
       count = length (r .headers);
     }
 
-module _ {strict : Bool} {s : List ℕ} {p q : ℕ} {bs : List ℕ} {r : Record} (x : Stands s p q bs) (g : Fields strict bs r) where
+module _ {strict : Bool} {s : List ℕ} {p q : ℕ} {bs : List ℕ} {r : Record} (x : Stands s p q bs) (g : FieldsBytes strict bs r) where
   deltas-reads : deltasAt s p ≡ ok (placedHead p g .deltas) (keyPlace p g)
   unfolding deltasAt
   deltas-reads =

@@ -11,7 +11,7 @@ use lib.ListN.{length, length-append}
 use Rattle.numbers.specs.Format.{bigEndian, Integer, shortest, Sized, Nullable}
 use Rattle.numbers.proofs.Shortest.{shortest-encodes}
 use Rattle.utf8.specs.Grammar.{Octets}
-use Rattle.records.specs.Format.{Header, Record, Run, HeaderBytes, Unused, Fields}
+use Rattle.records.specs.Format.{Header, Record, Run, HeaderBytes, Unused, FieldsBytes}
 use Rattle.records.specs.Written.{writtenBytes, writtenNullable, writtenHeader, writtenHeaders, writtenFields, writtenRecords}
 use Rattle.records.specs.Statements.{Each, Writable, RecordEncodes, RunEncodes}
 use Rattle.records.proofs.Sizes.{run-least, header-least}
@@ -67,7 +67,7 @@ none-used : (strict : Bool) → Unused strict (pos 0)
 none-used true = refl
 none-used false = tt
 
-fields-encode : (strict : Bool) (r : Record) → Writable r → Fields strict (writtenFields r) r
+fields-encode : (strict : Bool) (r : Record) → Writable r → FieldsBytes strict (writtenFields r) r
 unfolding writtenFields
 fields-encode strict r w =
     let parts = simp length-append at (w .size) in

@@ -14,7 +14,7 @@ use Rattle.numbers.specs.Bytes.{Bytes}
 use Rattle.numbers.specs.Format.{Integer, Varies, Sized, Nullable}
 use Rattle.primitives.specs.Step.{Step, ok, times}
 use Rattle.primitives.specs.Stands.{Stands, Encoding}
-use Rattle.primitives.specs.Reading.{integerAt, varintAt, lengthOf, lengthAt, Span, spanAt, shown}
+use Rattle.primitives.specs.Reading.{integerAt, varintAt, lengthOf, lengthAt, Span, spanAt, bytesOf, shown}
 use Rattle.primitives.specs.Statements.{endingAt}
 use Rattle.primitives.proofs.Steps.{ok-not-no, and-then-ok, map-ok, pick-ok}
 use Rattle.primitives.proofs.Places.{nothing, joined}
@@ -27,8 +27,8 @@ use Rattle.utf8.specs.Judgement.{isUtf8}
 use Rattle.utf8.proofs.Sequences.{utf8-sound}
 use Rattle.records.proofs.Parts.{starts}
 use Rattle.records.proofs.Presence.{present-ok}
-use Rattle.records.specs.Format.{Run, HeaderBytes, Fields, RecordBytes}
-use Rattle.records.specs.Judgement.{HeaderSpans, RecordSpans, countAt, bytesAt, bytesOf, keyAt, headerAt, Deltas, deltasAt, Head, headAt, withHeaders, fieldsAt, recordAt}
+use Rattle.records.specs.Format.{Run, HeaderBytes, FieldsBytes, RecordBytes}
+use Rattle.records.specs.Judgement.{HeaderSpans, RecordSpans, countAt, bytesAt, keyAt, headerAt, Deltas, deltasAt, Head, headAt, withHeaders, fieldsAt, recordAt}
 use Rattle.records.specs.Placed.{placedBytes, placedNullable, placedHeader, placedRun, placedFields, placedRecord}
 
 -- from p up to q of s stands an encoding by the grammar G, and x is where its parts stand
@@ -159,7 +159,7 @@ header-found s b p h q e =
 -- ---- the fields of a record
 
 abbrev FoundFields : List ℕ → ℕ → RecordSpans → ℕ → Type 0
-FoundFields = Found (Fields false) (λ x r at g. placedFields at g)
+FoundFields = Found (FieldsBytes false) (λ x r at g. placedFields at g)
 
 -- what stands before the headers, part by part
 record FoundDeltas (s : List ℕ) (p : ℕ) (d : Deltas) (q : ℕ) : Type 0 where

@@ -9,8 +9,9 @@ use native.Mathlib.Nat.{add-mul, one-mul, zero-mul, suc-mul}
 use lib.IntN.{ℤ, pos}
 use lib.ListN.{length, take, drop, getD, length-append, length-drop, List·getD-append}
 use lib.Seq.{length-take-le, getD-append-add}
+use Rattle.numbers.specs.Concat.{concat}
 use Rattle.records.specs.Judgement.{RecordSpans}
-use Rattle.records.specs.Rows.{headersIn, recordRows, headerRows, joined, filled, Tables, roomy, withRows}
+use Rattle.records.specs.Rows.{headersIn, recordRows, headerRows, filled, Tables, roomy, withRows}
 use Rattle.records.proofs.Wide.{Wide, records-wide, headers-wide, enough, records-end, headers-end}
 
 -- a row of w numbers holds these
@@ -31,20 +32,20 @@ module _ (w : ℕ) (back : List ℤ) where
       rw (← e) (getD-append-add front (numbers ++ after) k (pos 0) ∙ List·getD-append numbers after (pos 0) k (omega arith))
 
   rows-held : (front : List ℤ) (row : ℕ) (rows : List (List ℤ)) → length front ≡ row * w → Wide w rows
-      → RowsHeld w (front ++ (joined rows ++ back)) row rows
-  unfolding joined RowsHeld
+      → RowsHeld w (front ++ (concat rows ++ back)) row rows
+  unfolding concat RowsHeld
   rows-held front row [] e wide = tt
   rows-held front row (numbers ∷ rest) e (l, wide) =
       let next : length (front ++ numbers) ≡ (row + 1) * w = rw (length-append, add-mul, one-mul, e, l) in
-      let same : (front ++ numbers) ++ (joined rest ++ back) ≡ front ++ ((numbers ++ joined rest) ++ back) = simp append-assoc in (
-        rw append-assoc (row-held front row numbers (joined rest ++ back) e l),
+      let same : (front ++ numbers) ++ (concat rest ++ back) ≡ front ++ ((numbers ++ concat rest) ++ back) = simp append-assoc in (
+        rw append-assoc (row-held front row numbers (concat rest ++ back) e l),
         rw same at (rows-held (front ++ numbers) (row + 1) rest next wide),
       )
 
-joined-length : (w : ℕ) (rows : List (List ℤ)) → Wide w rows → length (joined rows) ≡ length rows * w
-unfolding joined
-joined-length w [] wide = sym (zero-mul w)
-joined-length w (numbers ∷ rest) (l, wide) = rw (length-append, l, joined-length w rest wide) (omega (arith, suc-mul (length rest) w))
+concat-length : (w : ℕ) (rows : List (List ℤ)) → Wide w rows → length (concat rows) ≡ length rows * w
+unfolding concat
+concat-length w [] wide = sym (zero-mul w)
+concat-length w (numbers ∷ rest) (l, wide) = rw (length-append, l, concat-length w rest wide) (omega (arith, suc-mul (length rest) w))
 
 -- ---- rows that were put in
 
@@ -59,7 +60,7 @@ module _ (w : ℕ) (t : List ℤ) (row : ℕ) (rows : List (List ℤ)) (wide : W
   unfolding filled
   filled-length =
       let before : row * w ≤ length t = omega (arith, add-mul row (length rows) w) in
-      rw (length-append, length-append, length-take-le (row * w) t before, joined-length w rows wide, length-drop)
+      rw (length-append, length-append, length-take-le (row * w) t before, concat-length w rows wide, length-drop)
       (omega (arith, add-mul row (length rows) w))
 
 -- ---- the rows of records

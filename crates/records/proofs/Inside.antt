@@ -9,11 +9,11 @@ use native.Mathlib.Omega.{arith}
 use lib.ListN.{length}
 use Rattle.numbers.specs.Format.{InBits, Sized, Nullable}
 use Rattle.primitives.specs.Stands.{Stands}
-use Rattle.primitives.specs.Reading.{Span}
+use Rattle.primitives.specs.Reading.{Span, bytesOf}
 use Rattle.primitives.proofs.Places.{first, second}
 use Rattle.utf8.specs.Grammar.{Octets}
 use Rattle.records.specs.Format.{Header, Record, Run, HeaderBytes, RecordBytes, RecordsBytes}
-use Rattle.records.specs.Judgement.{HeaderSpans, RecordSpans, bytesOf}
+use Rattle.records.specs.Judgement.{HeaderSpans, RecordSpans}
 use Rattle.records.specs.Placed.{placedBytes, placedNullable, placedHeader, placedRun, placedRecord, placedRecords}
 use Rattle.records.specs.Statements.{Each}
 use Rattle.records.proofs.Parts.{sized-stands, key-stands, value-stands, fields-stand}

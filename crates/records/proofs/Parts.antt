@@ -9,7 +9,7 @@ use lib.ListN.{length, length-append}
 use Rattle.numbers.specs.Format.{Sized}
 use Rattle.primitives.specs.Stands.{Stands}
 use Rattle.primitives.proofs.Places.{first, second}
-use Rattle.records.specs.Format.{Header, Record, HeaderBytes, Fields}
+use Rattle.records.specs.Format.{Header, Record, HeaderBytes, FieldsBytes}
 use Rattle.records.specs.Placed.{keyPlace, valuePlace, headersPlace}
 
 -- bytes, after their length
@@ -33,7 +33,7 @@ module _ {strict : Bool} {s : List ℕ} {p q : ℕ} {bs : List ℕ} {h : Header}
   value-stands = second (g .key) (g .value) (subst (Stands s p q) (g .is) x)
 
 -- the fields of a record
-pub record FieldsStand {strict : Bool} {bs : List ℕ} {r : Record} (s : List ℕ) (p q : ℕ) (g : Fields strict bs r) : Type 0 where
+pub record FieldsStand {strict : Bool} {bs : List ℕ} {r : Record} (s : List ℕ) (p q : ℕ) (g : FieldsBytes strict bs r) : Type 0 where
   pub attributes : Stands s p (p + length (g .attributes)) (g .attributes)
   pub timestampDelta : Stands s (p + length (g .attributes)) (p + length (g .attributes) + length (g .timestampDelta)) (g .timestampDelta)
   pub offsetDelta : Stands s (p + length (g .attributes) + length (g .timestampDelta)) (keyPlace p g) (g .offsetDelta)
@@ -42,7 +42,7 @@ pub record FieldsStand {strict : Bool} {bs : List ℕ} {r : Record} (s : List �
   pub count : Stands s (valuePlace p g + length (g .value)) (headersPlace p g) (g .count)
   pub headers : Stands s (headersPlace p g) q (g .headers)
 
-pub fields-stand : {strict : Bool} {s : List ℕ} {p q : ℕ} {bs : List ℕ} {r : Record} → Stands s p q bs → (g : Fields strict bs r)
+pub fields-stand : {strict : Bool} {s : List ℕ} {p q : ℕ} {bs : List ℕ} {r : Record} → Stands s p q bs → (g : FieldsBytes strict bs r)
     → FieldsStand s p q g
 fields-stand {s = s} {p} {q} x g =
     let a = subst (Stands s p q) (g .is) x in

@@ -8,11 +8,11 @@ use native.Mathlib.Omega.{arith}
 use lib.Dec.{eqb}
 use lib.ListN.{length, take, length-take}
 use Rattle.primitives.specs.Step.{ok, times}
-use Rattle.primitives.specs.Reading.{integerAt, varintAt, lengthAt, Span, spanAt}
+use Rattle.primitives.specs.Reading.{integerAt, varintAt, lengthAt, Span, spanAt, bytesOf}
 use Rattle.primitives.proofs.Moves.{integer-moves, varint-moves, length-moves, span-moves, span-ends}
 use Rattle.primitives.proofs.Steps.{and-then-ok, map-ok, pick-ok, times-each, times-count}
 use Rattle.utf8.specs.Judgement.{isUtf8}
-use Rattle.records.specs.Judgement.{HeaderSpans, RecordSpans, countAt, bytesAt, bytesOf, keyAt, headerAt, Deltas, deltasAt, Head, headAt, withHeaders, fieldsAt, recordAt, runAt}
+use Rattle.records.specs.Judgement.{HeaderSpans, RecordSpans, countAt, bytesAt, keyAt, headerAt, Deltas, deltasAt, Head, headAt, withHeaders, fieldsAt, recordAt, runAt}
 use Rattle.records.proofs.Presence.{present-ok}
 use Rattle.records.specs.Rows.{headersIn}
 use Rattle.records.specs.Statements.{CountsBounded}

@@ -11,10 +11,10 @@ use lib.IntN.{ℤ, pos, negsuc}
 use lib.ListN.{length, take}
 use Rattle.numbers.specs.Pick.{pick}
 use Rattle.primitives.specs.Step.{Step, ok, no, andThen, mapStep, times}
-use Rattle.primitives.specs.Reading.{unsignedAt, integerAt, byteAt, codeAt, full, limit, varintAt, lengthOf, lengthAt, spanOf, spanAt}
+use Rattle.primitives.specs.Reading.{unsignedAt, integerAt, byteAt, codeAt, full, limit, varintAt, lengthOf, lengthAt, spanOf, spanAt, bytesOf}
 use Rattle.primitives.proofs.Refusing.{RefusedBy, refused-by, and-then-refused, map-refused, pick-refused, times-refused}
 use Rattle.utf8.specs.Judgement.{isUtf8}
-use Rattle.records.specs.Judgement.{present, countAt, bytesAt, bytesOf, keyAt, headerAt, deltasAt, headAt, fieldsAt, recordAt, runAt, recordsAt}
+use Rattle.records.specs.Judgement.{present, countAt, bytesAt, keyAt, headerAt, deltasAt, headAt, fieldsAt, recordAt, runAt, recordsAt}
 
 abbrev numbers : ℕ → Type 0
 numbers n = (8 ≤ n) × (n ≤ 13)

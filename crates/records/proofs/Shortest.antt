@@ -12,7 +12,7 @@ use lib.ListN.{length, length-append}
 use Rattle.numbers.specs.Format.{shortest, Varies, Sized, Nullable}
 use Rattle.numbers.proofs.Integers.{integer-length}
 use Rattle.numbers.proofs.Shortest.{shortest-within, shortest-least, shortest-only}
-use Rattle.records.specs.Format.{Header, Record, Run, HeaderBytes, Fields}
+use Rattle.records.specs.Format.{Header, Record, Run, HeaderBytes, FieldsBytes}
 use Rattle.records.specs.Written.{writtenBytes, writtenNullable, writtenHeader, writtenHeaders, writtenFields, writtenRecord, writtenRecords}
 use Rattle.records.specs.Statements.{RecordShortest, RunShortest, RecordTight}
 use Rattle.records.proofs.Encodes.{written-length}
@@ -112,7 +112,7 @@ headers-tight (Run.more {x} {y} {a} {rest} g others) e =
 
 -- ---- fields
 
-module _ {strict : Bool} {bs : List ℕ} {r : Record} (g : Fields strict bs r) where
+module _ {strict : Bool} {bs : List ℕ} {r : Record} (g : FieldsBytes strict bs r) where
   -- their bytes and what is written, part by part
   record FieldsParts : Type 0 where
     whole : length bs
@@ -153,7 +153,7 @@ module _ {strict : Bool} {bs : List ℕ} {r : Record} (g : Fields strict bs r) w
   pub fields-shortest : length (writtenFields r) ≤ length bs
   fields-shortest = let parts = fields-parts in omega arith
 
-  fields-tight : g .attribute ≡ pos 0 → length bs ≡ length (writtenFields r) → Fields true bs r
+  fields-tight : g .attribute ≡ pos 0 → length bs ≡ length (writtenFields r) → FieldsBytes true bs r
   fields-tight unused e =
       let parts = fields-parts in
       record {

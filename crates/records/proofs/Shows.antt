@@ -8,10 +8,9 @@ use mathlib.Core.List.{List, map}
 use lib.ListN.{length}
 use Rattle.numbers.specs.Format.{Sized, Nullable}
 use Rattle.primitives.specs.Stands.{Stands}
-use Rattle.primitives.specs.Reading.{shown}
+use Rattle.primitives.specs.Reading.{bytesOf, shown}
 use Rattle.primitives.proofs.Places.{shows, first, second}
-use Rattle.records.specs.Format.{Header, Record, Run, HeaderBytes, Fields, RecordBytes, RecordsBytes}
-use Rattle.records.specs.Judgement.{bytesOf}
+use Rattle.records.specs.Format.{Header, Record, Run, HeaderBytes, FieldsBytes, RecordBytes, RecordsBytes}
 use Rattle.records.specs.Placed.{placedBytes, placedNullable, placedHeader, placedRun, placedFields, placedRecord, placedRecords, shownHeader, shownRecord, shownRecords}
 use Rattle.records.proofs.Parts.{sized-stands, key-stands, value-stands, fields-stand}
 
@@ -41,7 +40,7 @@ pub header-shows : {strict : Bool} {s : List ℕ} {p q : ℕ} {bs : List ℕ} {h
     → shownHeader s (placedHeader p g) ≡ h
 header-shows x g = rw (bytes-shows (key-stands x g) (g .keyed), bytes-shows (value-stands x g) (g .valued))
 
-fields-shows : {strict : Bool} {s : List ℕ} {p q : ℕ} {bs : List ℕ} {r : Record} → Stands s p q bs → (g : Fields strict bs r)
+fields-shows : {strict : Bool} {s : List ℕ} {p q : ℕ} {bs : List ℕ} {r : Record} → Stands s p q bs → (g : FieldsBytes strict bs r)
     → shownRecord s (placedFields p g) ≡ r
 fields-shows {strict} {s} {r = r} x g =
     let y = fields-stand x g in

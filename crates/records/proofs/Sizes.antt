@@ -11,7 +11,7 @@ use lib.ListN.{length, length-append}
 use Rattle.numbers.specs.Format.{zigzag, Varies, Sized, Nullable}
 use Rattle.numbers.proofs.Shortest.{groups-length}
 use Rattle.numbers.proofs.Integers.{integer-length}
-use Rattle.records.specs.Format.{Record, Run, Fields, RecordsBytes}
+use Rattle.records.specs.Format.{Record, Run, FieldsBytes, RecordsBytes}
 use Rattle.records.specs.Statements.{sizes, total, SizesAddUp, HeaderLeast, RecordLeast}
 use Rattle.records.proofs.Sound.{records-sound}
 
@@ -48,7 +48,7 @@ pub header-least : HeaderLeast
 header-least strict bs h g =
     rw (g .is, length-append (g .key) (g .value)) (omega (arith, sized-least (g .keyed), sized-least (g .valued)))
 
-fields-least : {strict : Bool} {bs : List ℕ} {r : Record} → Fields strict bs r → 6 + 2 * length (r .headers) ≤ length bs
+fields-least : {strict : Bool} {bs : List ℕ} {r : Record} → FieldsBytes strict bs r → 6 + 2 * length (r .headers) ≤ length bs
 fields-least {strict} {r = r} g =
     rw (g .is) (simp length-append (omega (
       arith,

@@ -7,7 +7,7 @@ use mathlib.Core.Option.{Option, none, some}
 use mathlib.Core.List.{List, [], _∷_, _++_}
 use lib.IntN.{ℤ, pos}
 use Rattle.numbers.specs.Format.{bigEndian, complement, Integer, Sized, Nullable}
-use Rattle.records.specs.Format.{Header, Record, Run, HeaderBytes, Fields}
+use Rattle.records.specs.Format.{Header, Record, Run, HeaderBytes, FieldsBytes}
 use Rattle.records.specs.Written.{writtenBytes, writtenNullable, writtenHeader, writtenHeaders, writtenFields, writtenRecord, writtenRecords}
 use Rattle.records.specs.Statements.{RecordWritten, RunWritten}
 
@@ -40,7 +40,7 @@ headers-written : (bs : List ℕ) (hs : List Header) → Run (HeaderBytes true) 
 unfolding writtenHeaders
 headers-written bs hs g = all-written writtenHeader header-written writtenHeaders refl (λ h rest. refl) g
 
-pub fields-written : (bs : List ℕ) (r : Record) → Fields true bs r → bs ≡ writtenFields r
+pub fields-written : (bs : List ℕ) (r : Record) → FieldsBytes true bs r → bs ≡ writtenFields r
 unfolding writtenFields
 fields-written bs r g =
     g .is

@@ -49,7 +49,7 @@ Unused false a = Unit {0}
 Unused true a = a ≡ pos 0
 
 -- Kafka, message format, record: what follows the length
-pub record Fields (strict : Bool) (bs : List ℕ) (r : Record) : Type 0 where
+pub record FieldsBytes (strict : Bool) (bs : List ℕ) (r : Record) : Type 0 where
   pub attributes : List ℕ
   pub timestampDelta : List ℕ
   pub offsetDelta : List ℕ
@@ -72,7 +72,7 @@ pub record Fields (strict : Bool) (bs : List ℕ) (r : Record) : Type 0 where
 pub record RecordBytes (strict : Bool) (bs : List ℕ) (r : Record) : Type 0 where
   pub fields : List ℕ
   pub sized : Sized strict bs fields
-  pub holds : Fields strict fields r
+  pub holds : FieldsBytes strict fields r
 
 -- Kafka, message format, record batch: records, one after the other
 abbrev pub RecordsBytes : Bool → List ℕ → List Record → Type 0

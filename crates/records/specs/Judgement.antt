@@ -6,10 +6,10 @@ use mathlib.Core.Bool.{true, false}
 use mathlib.Core.List.{List}
 use lib.Dec.{eqb, ltb}
 use lib.IntN.{ℤ}
-use lib.ListN.{length, take, drop}
+use lib.ListN.{length, take}
 use Rattle.numbers.specs.Pick.{pick}
 use Rattle.primitives.specs.Step.{Step, ok, no, andThen, mapStep, times}
-use Rattle.primitives.specs.Reading.{integerAt, varintAt, lengthAt, Span, spanAt}
+use Rattle.primitives.specs.Reading.{integerAt, varintAt, lengthAt, Span, spanAt, bytesOf}
 use Rattle.utf8.specs.Judgement.{isUtf8}
 
 -- ---- what is read: deltas, and where bytes stand
@@ -39,10 +39,6 @@ countAt s at = andThen (lengthAt false s at) present
 -- document 01, A record: a header's key, a header's value
 unfoldable pub bytesAt : List ℕ → ℕ → Step ℕ Span
 bytesAt s at = andThen (spanAt false s at) present
-
--- the bytes that a span shows
-abbrev pub bytesOf : List ℕ → Span → List ℕ
-bytesOf s x = take (x .len) (drop (x .start) s)
 
 -- ---- a header
 

@@ -6,9 +6,9 @@ use mathlib.Core.Option.{Option, none, some}
 use mathlib.Core.List.{List, [], _∷_, map}
 use lib.ListN.{length}
 use Rattle.numbers.specs.Format.{Sized, Nullable}
-use Rattle.primitives.specs.Reading.{Span, shown}
-use Rattle.records.specs.Format.{Header, Record, Run, HeaderBytes, Fields, RecordBytes, RecordsBytes}
-use Rattle.records.specs.Judgement.{HeaderSpans, RecordSpans, bytesOf}
+use Rattle.primitives.specs.Reading.{Span, bytesOf, shown}
+use Rattle.records.specs.Format.{Header, Record, Run, HeaderBytes, FieldsBytes, RecordBytes, RecordsBytes}
+use Rattle.records.specs.Judgement.{HeaderSpans, RecordSpans}
 
 -- ---- the spans of an encoding
 
@@ -29,7 +29,7 @@ unfoldable pub placedRun : {A R : Type 0} {G : List ℕ → A → Type 0} → ((
 placedRun place p Run.ended = []
 placedRun place p (Run.more {x} {a = a} g rest) = place x a p g ∷ placedRun place (p + length x) rest
 
-module _ {strict : Bool} {bs : List ℕ} {r : Record} (p : ℕ) (g : Fields strict bs r) where
+module _ {strict : Bool} {bs : List ℕ} {r : Record} (p : ℕ) (g : FieldsBytes strict bs r) where
   abbrev pub keyPlace : ℕ
   keyPlace = p + length (g .attributes) + length (g .timestampDelta) + length (g .offsetDelta)
 

@@ -7,6 +7,7 @@ use lib.Dec.{leb}
 use lib.IntN.{ℤ, pos, negsuc}
 use lib.ListN.{length, take, drop}
 use Rattle.numbers.specs.Pick.{pick}
+use Rattle.numbers.specs.Concat.{concat}
 use Rattle.primitives.specs.Reading.{Span}
 use Rattle.records.specs.Judgement.{HeaderSpans, RecordSpans}
 
@@ -43,13 +44,9 @@ headerRows (r ∷ rest) = map headerRow (r .headers) ++ headerRows rest
 
 -- ---- tables
 
-unfoldable pub joined : List (List ℤ) → List ℤ
-joined [] = []
-joined (row ∷ rest) = row ++ joined rest
-
 -- a table with rows of w numbers put in from a given row on; all else is as it was
 unfoldable pub filled : ℕ → ℕ → List (List ℤ) → List ℤ → List ℤ
-filled w first rows t = take (first * w) t ++ (joined rows ++ drop ((first + length rows) * w) t)
+filled w first rows t = take (first * w) t ++ (concat rows ++ drop ((first + length rows) * w) t)
 
 -- both tables that are lent
 pub record Tables : Type 0 where
@@ -59,10 +56,13 @@ pub record Tables : Type 0 where
 abbrev pub tables : List ℤ → List ℤ → Tables
 tables rs hs = record { records = rs; headers = hs }
 
--- room is whole rows; header rows are filled from the first header row on
+-- whether so many rows are enough for records and for their headers, which stand from the first header row on
+abbrev pub enoughRows : (records headers first : ℕ) → List RecordSpans → Bool
+enoughRows records headers first rs = pick (leb (length rs) records) (leb (first + headersIn rs) headers) false
+
+-- room is whole rows
 unfoldable pub roomy : ℕ → List RecordSpans → Tables → Bool
-roomy first rs t =
-    pick (leb (length rs) (length (t .records) / 8)) (leb (first + headersIn rs) (length (t .headers) / 4)) false
+roomy first rs t = enoughRows (length (t .records) / 8) (length (t .headers) / 4) first rs
 
 unfoldable pub withRows : ℕ → List RecordSpans → Tables → Tables
 withRows first rs t =

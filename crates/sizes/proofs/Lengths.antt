@@ -9,8 +9,7 @@ use lib.ListN.{length, drop, length-append, length-drop, length-map}
 use lib.Seq.{length-take-le}
 use Rattle.numbers.specs.Format.{zigzag, shortest}
 use Rattle.numbers.proofs.Shortest.{fewest-groups, groups-length}
-use Rattle.primitives.specs.Reading.{Span, shown}
-use Rattle.records.specs.Judgement.{bytesOf}
+use Rattle.primitives.specs.Reading.{Span, bytesOf, shown}
 use Rattle.records.specs.Placed.{shownHeader, shownRecord, shownRecords}
 use Rattle.records.specs.Statements.{Each}
 use Rattle.records.specs.Written.{writtenBytes, writtenNullable, writtenHeader, writtenHeaders, writtenFields, writtenRecord, writtenRecords}

@@ -9,7 +9,7 @@ use lib.IntN.{ℤ}
 use lib.ListN.{length}
 use Rattle.numbers.specs.Format.{shortest}
 use Rattle.primitives.specs.Reading.{Span, shown}
-use Rattle.records.specs.Format.{Record, Fields}
+use Rattle.records.specs.Format.{Record, FieldsBytes}
 use Rattle.records.specs.Judgement.{HeaderSpans, RecordSpans}
 use Rattle.records.specs.Placed.{placedFields, shownHeader, shownRecord, shownRecords}
 use Rattle.records.specs.Statements.{Each}
@@ -50,4 +50,4 @@ RecordsSized =
 -- The parts of an encoding, wherever it stands, have the size of what is written for its record.
 abbrev pub PlacedSized : Type 0
 PlacedSized =
-    (strict : Bool) (bs : List ℕ) (r : Record) (p : ℕ) (g : Fields strict bs r) → fieldsSize (placedFields p g) ≡ length (writtenFields r)
+    (strict : Bool) (bs : List ℕ) (r : Record) (p : ℕ) (g : FieldsBytes strict bs r) → fieldsSize (placedFields p g) ≡ length (writtenFields r)

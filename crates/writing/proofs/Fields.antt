@@ -13,7 +13,7 @@ use Rattle.numbers.specs.Pen.{Pen, pen, emit}
 use Rattle.primitives.specs.Step.{Step, ok, no, mapStep, times}
 use Rattle.primitives.specs.Reading.{shown}
 use Rattle.primitives.proofs.Steps.{map-ok, map-no, times-count}
-use Rattle.records.specs.Judgement.{HeaderSpans, RecordSpans}
+use Rattle.records.specs.Judgement.{HeaderSpans, RecordSpans, withHeaders}
 use Rattle.records.specs.Rows.{Tables}
 use Rattle.records.specs.Placed.{shownHeader, shownRecord}
 use Rattle.records.specs.Written.{writtenNullable, writtenHeaders, writtenFields}
@@ -22,7 +22,7 @@ use Rattle.sizes.proofs.Caps.{capped-span}
 use Rattle.asking.specs.declared.WriteFault.{WriteFault}
 use Rattle.asking.specs.declared.AskedRecord.{AskedRecord}
 use Rattle.asking.specs.declared.RecordAsked.{RecordAsked}
-use Rattle.asking.specs.Asked.{headerAsked, headAsked, headRowAsked, withHeaders, nextRow, rowPlace, recordAsked}
+use Rattle.asking.specs.Asked.{headerAsked, headAsked, headRowAsked, nextRow, rowPlace, recordAsked}
 use Rattle.asking.specs.Answers.{writeNumberOf, spanOf, headOf, viewRecord}
 use Rattle.asking.proofs.There.{head-there}
 use Rattle.writing.specs.declared.Sized.{Sized}
