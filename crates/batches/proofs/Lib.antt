@@ -29,4 +29,5 @@ pub mod Stands
 mod Storing
 mod Strictly
 pub mod Unambiguous
+pub mod WriteNumbers
 pub mod Written

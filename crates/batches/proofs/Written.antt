@@ -43,7 +43,7 @@ given-by-numbered x s (ok c p) w =
     pick-numbered (leb (batchLengthOf (shows x s c)) mostLength) (given (writtenBatch (shows x s c))) 23 tt (omega arith)
 given-by-numbered x s (no n) (l, h) = omega arith
 
-content-refused : (wanted : Wanted) (t : Tables) (s : List ℕ) → RefusedBy RowFault (contentAsked wanted t s)
+pub content-refused : (wanted : Wanted) (t : Tables) (s : List ℕ) → RefusedBy RowFault (contentAsked wanted t s)
 content-refused (marker m) t s = tt
 content-refused (rows n) t s = map-refused RowFault records (recordsAsked t s 0 n) (records-refused t s 0 n)
 

@@ -1,7 +1,7 @@
 -- The laws of the writer and of the canonical check, each in words and then as a statement. What proves each stands in
 -- proofs/ under the statement's name in small letters: `written : Written`. That what is written reads back stands with
 -- demand 3's statements, in Demand3.antt.
-use Prim.Native.Nat.{ℕ, _<_, _≤_}
+use Prim.Native.Nat.{ℕ, _+_, _<_, _≤_}
 use mathlib.Core.Path.{_≡_}
 use mathlib.Core.Bool.{Bool, true}
 use mathlib.Core.Logic.{_⊎_}
@@ -11,16 +11,16 @@ use lib.ListN.{length, take, drop, getD}
 use Rattle.numbers.specs.Bytes.{Bytes}
 use Rattle.numbers.specs.Exactly.{Exactly}
 use Rattle.numbers.specs.Format.{InBits}
-use Rattle.primitives.specs.Step.{ok}
+use Rattle.primitives.specs.Step.{ok, no}
 use Rattle.records.specs.Format.{Record}
 use Rattle.records.specs.Judgement.{RecordSpans}
 use Rattle.records.specs.Rows.{Tables}
 use Rattle.asking.specs.declared.WriteFault.{WriteFault}
 use Rattle.asking.specs.Asked.{RowPlace}
 use Rattle.writing.specs.declared.Written.{Written as WrittenAnswer}
-use Rattle.writing.specs.Answers.{given, viewWritten}
+use Rattle.writing.specs.Answers.{Answer, given, viewWritten}
 use Rattle.writing.specs.Promises.{WriteOutcome}
-use Rattle.layout.specs.Table.{table}
+use Rattle.layout.specs.Table.{uncounted}
 use Rattle.layout.specs.Batch.{Fields, Marker, Content, Batch}
 use Rattle.layout.specs.Format.{BatchBytes}
 use Rattle.batches.specs.declared.RecordBatch.{RecordBatch}
@@ -28,7 +28,7 @@ use Rattle.batches.specs.declared.ControlBatchOrRecords.{ControlBatchOrR
 use Rattle.batches.specs.declared.BatchRead.{BatchRead}
 use Rattle.batches.specs.Placed.{shownContent}
 use Rattle.batches.specs.Answers.{viewFields}
-use Rattle.batches.specs.Writer.{marker, viewWanted, contentAsked, batchGiven}
+use Rattle.batches.specs.Writer.{batchLengthOf, marker, viewWanted, contentAsked, mostLength, batchGiven}
 use Rattle.batches.specs.Promises.{ReadOutcome, ReadPromise, MeasurePromise, WritePromise, Canonical, CanonicalPromise}
 
 -- ---- numbers are of their width
@@ -77,10 +77,45 @@ pub record Asks (q : Request) (c : Content RecordSpans) : Type 0 where
 abbrev pub batchAsked : Request → Content RecordSpans → Batch Record
 batchAsked q c = record { fields = viewFields (q .batch); content = shownContent (q .source) c }
 
+-- ---- the writer's numbers
+
+module _ (q : Request) where
+  -- codec 0, and the rows are refused by a number
+  abbrev pub RowsRefusedBy : ℕ → Type 0
+  RowsRefusedBy n = (q .codec ≡ 0) × (contentAsked (viewWanted (q .kind)) (q .tables) (q .source) ≡ no n)
+
+  -- codec 0, and the rows ask for a batch of such a batchLength
+  pub record AsksLength (n : ℕ) : Type 0 where
+    pub codec-none : q .codec ≡ 0
+    pub content : Content RecordSpans
+    pub asked : Asks q content
+    pub length-is : batchLengthOf (batchAsked q content) ≡ n
+
+-- Document 01, Writer's numbers: each is given exactly where it says.
+pub record WriteNumbersOf (q : Request) (out : List ℕ) (a : Answer) : Type 0 where
+  -- codec not 0
+  pub twenty : Exactly (a .number ≡ 20) (q .codec ≡ 0 → ⊥)
+  -- more records than rows, or a row's numbers
+  pub twenty-one : Exactly (a .number ≡ 21) (RowsRefusedBy q 21)
+  -- header key not UTF-8
+  pub twenty-two : Exactly (a .number ≡ 22) (RowsRefusedBy q 22)
+  -- batchLength would exceed 2147483647
+  pub twenty-three : Exactly (a .number ≡ 23) ((n : ℕ) × AsksLength q n × (mostLength < n))
+  -- output shorter than 12 + batchLength
+  pub twenty-four : Exactly (a .number ≡ 24) ((n : ℕ) × AsksLength q n × (n ≤ mostLength) × (length out < uncounted + n))
+  -- none of these: accepted, with the length, which is 12 + batchLength
+  pub accepted : Exactly (a .number ≡ 0) ((n : ℕ) × AsksLength q n × (n ≤ mostLength) × (uncounted + n ≤ length out))
+  pub length-is : (n : ℕ) → AsksLength q n → a .number ≡ 0 → a .bytes ≡ uncounted + n
+  -- no other number is given
+  pub no-other : (a .number ≡ 0) ⊎ ((20 ≤ a .number) × (a .number ≤ 24))
+
+abbrev pub WriteNumbers : Type 0
+WriteNumbers = (q : Request) (out : List ℕ) (o : WriteOutcome) → Writes q out o → WriteNumbersOf q out (viewWritten (o .result))
+
 -- ---- what is written
 
--- Where the writer accepts, the output begins with as many bytes as it says, and all else in it is as it was. They are an
--- encoding, by the strict grammar, of exactly the fields, the kind and the shown records that were asked for: every
+-- Where the writer accepts, the output begins with as many bytes as it says, and all else in it is as it was. They are
+-- an encoding, by the strict grammar, of exactly the fields, the kind and the shown records that were asked for: every
 -- number in its shortest bytes, attribute bits above 5 and record attributes 0.
 pub record WrittenAs (q : Request) (out : List ℕ) (o : WriteOutcome) (n : ℕ) : Type 0 where
   pub bytes : List ℕ

@@ -6,7 +6,7 @@ use mathlib.Core.List.{List, [], _∷_, _++_}
 use native.Mathlib.Omega.{arith}
 use native.Mathlib.Decide.{decLt}
 use native.Mathlib.Nat.{pow-succ'}
-use lib.ListN.{getD}
+use lib.ListN.{getD, length-append}
 use Rattle.listing.specs.Text.{digits}
 use Rattle.listing.specs.Statements.{spelled, AllDigits, Spells, Decimals}
 use Rattle.listing.proofs.Digits.{digits-last, digits-more}
@@ -30,14 +30,23 @@ front-more (x ∷ text) digit h = h
 
 one : (n : ℕ) → n < 10 → Spells ((48 + n) ∷ []) n
 unfolding spelled AllDigits
-one n h = record { value = omega arith; digits = (omega arith, omega arith, tt); front = λ l. omega arith }
+one n h =
+    record { value = omega arith; digits = (omega arith, omega arith, tt); some = omega arith; front = λ l. absurd (omega arith) }
+
+-- the first digit of what is not 0 is not 0
+front-digit : (text : List ℕ) (n : ℕ) → 0 < n → Spells text n → 48 < getD text 0 0
+unfolding spelled
+front-digit [] n h s = absurd (omega (arith, s .some))
+front-digit (x ∷ []) n h s = omega (arith, s .value)
+front-digit (x ∷ y ∷ text) n h s = s .front (omega arith)
 
 more : (text : List ℕ) (n : ℕ) → 10 ≤ n → Spells text (n / 10) → Spells (text ++ ((48 + n % 10) ∷ [])) n
 more text n h s =
     record {
       value = spelled-more 0 text (48 + n % 10) ∙ omega (arith, s .value);
       digits = all-more text (48 + n % 10) (s .digits) (omega arith) (omega arith);
-      front = λ l. front-more text (48 + n % 10) (s .front (omega arith));
+      some = simp length-append (omega arith);
+      front = λ l. front-more text (48 + n % 10) (front-digit text (n / 10) (omega arith) s);
     }
 
 -- ---- all of them

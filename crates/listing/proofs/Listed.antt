@@ -1,6 +1,6 @@
 -- The lines of the functions' entries are those of the definition's turns, one after the other; and each turn that goes
 -- on leaves fewer bytes, so that the turns are enough. Assumes nothing.
-use Prim.Native.Nat.{ℕ, zero, suc, _+_, _≤_, _<_}
+use Prim.Native.Nat.{ℕ, zero, suc, _+_, _/_, _≤_, _<_}
 use mathlib.Core.Path.{_≡_, refl, sym, ap, _∙_, subst}
 use mathlib.Core.Bool.{Bool, true, false}
 use mathlib.Core.List.{List, [], _∷_, _++_, append-nil}
@@ -16,7 +16,7 @@ use Rattle.listing.specs.declared.Entry.{Entry}
 use Rattle.listing.specs.Listing.{Turn, line, last, most, firstTurn, turnAt, andOn, linesFrom, listing}
 use Rattle.listing.specs.Answers.{inLine, entryOf}
 use Rattle.listing.specs.Promises.{ListOutcome}
-use Rattle.listing.specs.Statements.{shownLine, textOf, Follow, done, goes-on, Listed, Follows, InUse, FirstInUse, AtInUse, Forward, TurnsEnough}
+use Rattle.listing.specs.Statements.{shownLine, textOf, Follow, done, goes-on, Listed, Follows, ProgramRooms, InUse, FirstInUse, AtInUse, Forward, TurnsEnough}
 use Rattle.listing.proofs.Turns.{turn-forward}
 
 at-not-done : {X : Type 0} {place : ℕ} → Next.At place ≡ Next.Done → X
@@ -114,3 +114,8 @@ follows s t x e =
 
 pub turns-enough : TurnsEnough
 turns-enough k rooms s h = same-lines rooms s k (suc (length s)) (line [] 0) (omega arith, omega arith) (omega arith, omega arith)
+
+-- ---- the program's tables
+
+pub program-rooms : ProgramRooms
+program-rooms t e f = λ i. record { records = e i / 8; headers = f i / 4 }

@@ -47,6 +47,10 @@ pub data Turn : Type 0 where
 abbrev pub most : ℕ
 most = 65536
 
+-- the rows with which the program `list` reads a batch
+abbrev pub programRooms : Rooms
+programRooms = record { records = 1024; headers = 2048 }
+
 abbrev pub firstTurn : List ℕ → Turn
 firstTurn s = pick (ltb most (length s)) (last tooLong) (line heading 0)
 

@@ -10,7 +10,7 @@ use Rattle.listing.specs.declared.Line.{Line}
 use Rattle.listing.specs.declared.Next.{Next}
 use Rattle.listing.specs.declared.Entry.{Entry}
 use Rattle.listing.specs.Text.{decimal}
-use Rattle.listing.specs.Listing.{linesFrom, listing}
+use Rattle.listing.specs.Listing.{programRooms, linesFrom, listing}
 use Rattle.listing.specs.Promises.{ListFirstPromise, ListOutcome, ListAtPromise}
 
 -- ---- numbers in decimal
@@ -24,11 +24,13 @@ unfoldable pub AllDigits : List ℕ → Type 0
 AllDigits [] = Unit {0}
 AllDigits (digit ∷ rest) = (48 ≤ digit) × (digit ≤ 57) × AllDigits rest
 
--- Of every number of 64 bits the text is digits alone that spell it, and no zero stands in front.
+-- Of every number of 64 bits the text is digits alone that spell it, at least one, and no zero stands in front of
+-- another digit.
 pub record Spells (text : List ℕ) (n : ℕ) : Type 0 where
   pub value : spelled 0 text ≡ n
   pub digits : AllDigits text
-  pub front : 0 < n → 48 < getD text 0 0
+  pub some : 0 < length text
+  pub front : 1 < length text → 48 < getD text 0 0
 
 abbrev pub Decimals : Type 0
 Decimals = (n : ℕ) → n < 2 ^ 64 → Spells (decimal n) n
@@ -57,6 +59,13 @@ Listed = (s : List ℕ) (rooms : Rooms) (x : Entry) (rest : List Entry) → List
 -- And there are always such entries, up to a last one.
 abbrev pub Follows : Type 0
 Follows = (s : List ℕ) (t : Tables) (x : Entry) → ListFirstPromise s x → (rest : List Entry) × Follow s (roomsOf t) x rest
+
+-- ---- the program's tables
+
+-- Document 01: the program `list` reads with 1,024 record rows and 2,048 header rows. Tables of 8192 numbers each, as
+-- it lends them, have these rows.
+abbrev pub ProgramRooms : Type 0
+ProgramRooms = (t : Tables) → length (t .records) ≡ 8192 → length (t .headers) ≡ 8192 → roomsOf t ≡ programRooms
 
 -- ---- lines
 

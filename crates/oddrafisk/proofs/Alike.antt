@@ -1,24 +1,60 @@
 -- The library says what the layer below answers, and takes what it has said. Assumes nothing.
-use Prim.Native.Nat.{ℕ, suc, _-_, _^_}
-use mathlib.Core.Path.{_≡_, refl, sym, _∙_, subst}
-use mathlib.Core.Bool.{Bool, true, false}
+use Prim.Native.Nat.{ℕ}
+use mathlib.Core.Path.{_≡_, refl, sym, ap, _∙_, subst}
+use mathlib.Core.Bool.{Bool, true, false, false≢true}
 use mathlib.Core.Option.{some}
-use native.Mathlib.Omega.{arith}
-use borrow.Author.Tests.{lt-ltb}
-use lib.IntN.{ℤ, pos, negsuc}
-use Rattle.numbers.specs.Format.{InBits}
+use mathlib.Core.List.{List}
+use native.Mathlib.Decide.{ℕ-discrete}
+use borrow.Author.Tests.{ne-eqb}
+use lib.IntN.{ℤ, pos}
+use Rattle.numbers.proofs.InBits.{test-in}
+use Rattle.records.specs.Rows.{Tables}
+use Rattle.writing.specs.Answers as Writing
+use Rattle.writing.specs.Answers.{measured, answerDue, outputDue}
 use Rattle.layout.specs.Batch.{TimestampType, createTime, logAppendTime, abort, commit}
 use Rattle.layout.specs.Time.{recordTime}
-use Rattle.batches.specs.Answers.{Kind, ofRecords, ofMarker, Answer}
-use Rattle.oddrafisk.specs.Entries.{typeEntry, flagEntry, kindEntry, inBits, is0or1, typeOf, flagOf, kindWanted, entriesAsked}
-use Rattle.oddrafisk.specs.Promises.{Says, timed, timeFor}
-use Rattle.oddrafisk.specs.Statements.{ChecksAlike, ReadsAlike, TimesAlike, askedKind, EntriesTaken}
+use Rattle.batches.specs.declared.RecordBatch.{RecordBatch}
+use Rattle.batches.specs.declared.ControlBatchOrRecords.{ControlBatchOrRecords}
+use Rattle.batches.specs.Answers.{Kind, ofRecords, ofMarker, Answer, viewFields}
+use Rattle.batches.specs.Writer.{viewWanted, batchGiven}
+use Rattle.oddrafisk.specs.Entries.{typeEntry, flagEntry, kindEntry, is0or1, typeOf, flagOf, kindWanted, entriesAsked}
+use Rattle.oddrafisk.specs.Promises.{Says, entriesGiven, Sizes, timed, timeFor}
+use Rattle.oddrafisk.specs.Statements.{ChecksAlike, ReadsAlike, Taken, MeasuresAlike, WritesAlike, CanonicalAlike, TimesAlike, askedKind, EntriesTaken}
 
 pub checks-alike : ChecksAlike
 checks-alike s r o e p = subst (λ (a : Answer). Says a o) (sym e) p
 
 pub reads-alike : ReadsAlike
 reads-alike s t o o′ e p = (subst (λ (a : Answer). Says a (o′ .said)) (sym (e .answer)) (p .said), p .tables ∙ sym (e .tables))
+
+-- ---- the writer
+
+-- what is given for entries that are taken is what is given for the batch
+given-alike : (e : List ℤ) (b : RecordBatch) (codec : ℕ) (kind : ControlBatchOrRecords) (t : Tables) (s : List ℕ) → Taken e b kind
+    → entriesGiven e (pos codec) t s ≡ batchGiven (viewFields b) codec (viewWanted kind) t s
+unfolding batchGiven
+given-alike e b codec kind t s taken =
+    elim (ℕ-discrete codec 0) [
+      | yes z ↦ rw (z, taken) refl
+      | no z ↦ rw (ne-eqb codec 0 z) refl
+    ]
+
+pub measures-alike : MeasuresAlike
+measures-alike e b codec kind t s r o taken p q =
+    subst (λ (a : Writing.Answer). Sizes a o) (ap measured (given-alike e b codec kind t s taken) ∙ sym p) q
+
+pub writes-alike : WritesAlike
+writes-alike e b codec kind t s out o o′ taken p q =
+    let same = given-alike e b codec kind t s taken in (
+      subst (λ (a : Writing.Answer). Sizes a (o′ .said)) (ap (answerDue 0 out) same ∙ sym (p .answer)) (q .said),
+      q .output ∙ ap (outputDue 0 out) same ∙ sym (p .output),
+    )
+
+-- ---- the canonical check
+
+pub canonical-alike : CanonicalAlike
+canonical-alike s true n e p = p .yes .1 (e .0 refl)
+canonical-alike s false n e p = p .no .1 (λ is. false≢true (e .1 is))
 
 -- ---- times
 
@@ -32,13 +68,6 @@ unfolding recordTime
 times-alike x delta = timed-alike (x .timestampType) (x .firstTimestamp) (x .maxTimestamp) delta
 
 -- ---- entries
-
-less-one : (w : ℕ) → suc w - 1 ≡ w
-less-one w = omega arith
-
-in-bits : (w : ℕ) (z : ℤ) → InBits (suc w) z → inBits w z ≡ true
-in-bits w (pos n) h = lt-ltb n (2 ^ w) (rw (less-one w) at h)
-in-bits w (negsuc k) h = lt-ltb k (2 ^ w) (rw (less-one w) at h)
 
 type-again : (t : TimestampType) → (is0or1 (typeEntry t) ≡ true) × (typeOf (typeEntry t) ≡ t)
 type-again createTime = (refl, refl)
@@ -57,10 +86,10 @@ pub entries-taken : EntriesTaken
 unfolding entriesAsked
 entries-taken x k n m bytes w =
     rw (
-      in-bits 31 (x .partitionLeaderEpoch) (w .partitionLeaderEpoch),
-      in-bits 31 (x .lastOffsetDelta) (w .lastOffsetDelta),
-      in-bits 15 (x .producerEpoch) (w .producerEpoch),
-      in-bits 31 (x .baseSequence) (w .baseSequence),
+      test-in 32 (x .partitionLeaderEpoch) (w .partitionLeaderEpoch),
+      test-in 32 (x .lastOffsetDelta) (w .lastOffsetDelta),
+      test-in 16 (x .producerEpoch) (w .producerEpoch),
+      test-in 32 (x .baseSequence) (w .baseSequence),
       type-again (x .timestampType) .0,
       flag-again (x .transactional) .0,
       type-again (x .timestampType) .1,

@@ -1,21 +1,28 @@
--- The laws of the library for other languages, each in words and then as a statement. What proves each stands in proofs/
--- under the statement's name in small letters: `entries-fit : EntriesFit`.
+-- The laws of the library for other languages, each in words and then as a statement. What proves each stands in
+-- proofs/ under the statement's name in small letters: `entries-taken : EntriesTaken`.
 use Prim.Native.Nat.{ℕ, _≤_}
 use mathlib.Core.Path.{_≡_}
+use mathlib.Core.Bool.{Bool}
 use mathlib.Core.Option.{some}
 use mathlib.Core.List.{List}
-use lib.IntN.{ℤ}
+use lib.IntN.{ℤ, pos}
+use Rattle.numbers.specs.Pick.{pick}
 use Rattle.records.specs.Rows.{Tables}
+use Rattle.writing.specs.declared.Written.{Written}
+use Rattle.writing.specs.Answers.{viewWritten}
+use Rattle.writing.specs.Promises as Writing
 use Rattle.layout.specs.Batch.{Fields}
 use Rattle.layout.specs.Time.{recordTime}
 use Rattle.opening.specs.Judgement.{judge}
+use Rattle.batches.specs.declared.RecordBatch.{RecordBatch}
+use Rattle.batches.specs.declared.ControlBatchOrRecords.{ControlBatchOrRecords}
 use Rattle.batches.specs.declared.BatchCheck.{BatchCheck}
-use Rattle.batches.specs.Answers.{Kind, ofRecords, ofMarker, Answer, accepts, viewCheck, viewRead, answerWithRoom, Rooms, answerOf}
+use Rattle.batches.specs.Answers.{Kind, ofRecords, ofMarker, Answer, accepts, viewFields, viewCheck, viewRead, answerWithRoom, Rooms, answerOf}
 use Rattle.batches.specs.Promises as Batches
-use Rattle.batches.specs.Writer.{Wanted, marker, rows}
+use Rattle.batches.specs.Writer.{Wanted, marker, rows, viewWanted}
 use Rattle.batches.specs.Rewriting.{InWidth}
 use Rattle.oddrafisk.specs.Entries.{typeEntry, entriesOf, entriesAsked}
-use Rattle.oddrafisk.specs.Promises.{Outcome, Says, CheckPromise, ReadOutcome, ReadPromise, timeFor}
+use Rattle.oddrafisk.specs.Promises.{Outcome, Says, CheckPromise, ReadOutcome, ReadPromise, Sizes, MeasurePromise, WriteOutcome, WritePromise, CanonicalPromise, timeFor}
 
 -- ---- numbers
 
@@ -43,6 +50,28 @@ abbrev pub ReadsAlike : Type 0
 ReadsAlike =
     (s : List ℕ) (t : Tables) (o : Batches.ReadOutcome) (o′ : ReadOutcome) → Batches.ReadPromise s t o → ReadPromise s t o′
     → Says (viewRead (o .result)) (o′ .said) × (o′ .tables ≡ o .tables)
+
+-- the entries are taken, and ask for these fields and this kind
+abbrev pub Taken : List ℤ → RecordBatch → ControlBatchOrRecords → Type 0
+Taken e b kind = entriesAsked e ≡ some (record { fields = viewFields b; wanted = viewWanted kind })
+
+-- Of entries that are taken it says the number and the length that RecordBatch::measure answers for these fields and
+-- this kind, for the same codec number, tables and source.
+abbrev pub MeasuresAlike : Type 0
+MeasuresAlike =
+    (e : List ℤ) (b : RecordBatch) (codec : ℕ) (kind : ControlBatchOrRecords) (t : Tables) (s : List ℕ) (r : Written) (o : Outcome)
+    → Taken e b kind → Batches.MeasurePromise b codec kind t s r → MeasurePromise e (pos codec) t s o → Sizes (viewWritten r) o
+
+-- So it says what RecordBatch::write answers, and leaves the same output.
+abbrev pub WritesAlike : Type 0
+WritesAlike =
+    (e : List ℤ) (b : RecordBatch) (codec : ℕ) (kind : ControlBatchOrRecords) (t : Tables) (s out : List ℕ)
+    (o : Writing.WriteOutcome) (o′ : WriteOutcome) → Taken e b kind → Batches.WritePromise b codec kind t s out o
+    → WritePromise e (pos codec) t s out o′ → Sizes (viewWritten (o .result)) (o′ .said) × (o′ .output ≡ o .output)
+
+-- It says 1 exactly where RecordBatch::is_canonical says true, and else 0.
+abbrev pub CanonicalAlike : Type 0
+CanonicalAlike = (s : List ℕ) (r : Bool) (n : ℕ) → Batches.CanonicalPromise s r → CanonicalPromise s n → n ≡ pick r 1 0
 
 -- It tells times as RecordBatch::record_time does, of the fields that it is handed.
 abbrev pub TimesAlike : Type 0

@@ -1,0 +1,172 @@
+-- Each of the writer's numbers is given exactly where document 01 says: its tests are made in order, and each that
+-- fails gives its own number. Assumes nothing.
+use Prim.Native.Nat.{ℕ, _+_, _≤_, _<_}
+use mathlib.Core.Path.{_≡_, refl, sym, ap, _∙_, subst}
+use mathlib.Core.Bool.{Bool, true, false}
+use mathlib.Core.Logic.{_⊎_, inl, inr}
+use mathlib.Core.List.{List}
+use native.Mathlib.Omega.{arith}
+use native.Mathlib.Decide.{decLe, ℕ-discrete}
+use native.Mathlib.Nat.{zero-add}
+use borrow.Author.Tests.{le-leb, lt-leb, eq-eqb, ne-eqb}
+use lib.Dec.{leb}
+use lib.ListN.{length}
+use Rattle.numbers.specs.Exactly.{Exactly}
+use Rattle.numbers.specs.Pick.{pick}
+use Rattle.primitives.specs.Step.{Step, ok, no}
+use Rattle.primitives.proofs.Refusing.{RefusedBy}
+use Rattle.records.specs.Format.{Record}
+use Rattle.records.specs.Judgement.{RecordSpans}
+use Rattle.asking.specs.Asked.{RowPlace}
+use Rattle.asking.proofs.Refusals.{RowFault}
+use Rattle.writing.specs.Answers.{Answer, writes, refuses, viewWritten, given, refused, answerDue}
+use Rattle.writing.proofs.Outcomes.{numbers}
+use Rattle.layout.specs.Table.{uncounted}
+use Rattle.layout.specs.Batch.{Content, Batch}
+use Rattle.batches.specs.Answers.{viewFields}
+use Rattle.batches.specs.Writer.{batchLengthOf, writtenBatch, viewWanted, contentAsked, mostLength, batchGiven}
+use Rattle.batches.specs.Rewriting.{Request, batchAsked, RowsRefusedBy, AsksLength, WriteNumbers}
+use Rattle.batches.proofs.Encodes.{content-length}
+use Rattle.batches.proofs.Giving.{written-length}
+use Rattle.batches.proofs.Written.{content-refused}
+
+-- ---- what is answered of a batch of some length
+
+lengths-are : (b : Batch Record) → length (writtenBatch b) ≡ uncounted + batchLengthOf b
+lengths-are b = omega (arith, written-length b, content-length b)
+
+-- by whether the length is within its field, and within the output
+abbrev byLengths : Bool → Bool → ℕ → Answer
+byLengths short room n = pick short (pick room (writes n) (refuses 24)) (refuses 23)
+
+due-by : (short : Bool) (bs out : List ℕ) (n : ℕ) → length bs ≡ n
+    → answerDue 0 out (pick short (given bs) (refused 23)) ≡ byLengths short (leb n (length out)) n
+due-by true bs out n e = rw (zero-add (length bs), e) refl
+due-by false bs out n e = refl
+
+length-by : (short room : Bool) (n : ℕ) → byLengths short room n .number ≡ 0 → byLengths short room n .bytes ≡ n
+length-by true true n e = refl
+length-by true false n e = absurd (omega arith)
+length-by false room n e = absurd (omega arith)
+
+-- ---- which test was the first to fail, or that none did
+
+data Told (q : Request) (out : List ℕ) : ℕ → Type 0 where
+  by-codec : (q .codec ≡ 0 → ⊥) → Told q out 20
+  by-row : RowsRefusedBy q 21 → Told q out 21
+  by-key : RowsRefusedBy q 22 → Told q out 22
+  by-length : {n : ℕ} → AsksLength q n → mostLength < n → Told q out 23
+  by-output : {n : ℕ} → AsksLength q n → n ≤ mostLength → length out < uncounted + n → Told q out 24
+  by-none : {n : ℕ} → AsksLength q n → n ≤ mostLength → uncounted + n ≤ length out → Told q out 0
+
+module _ (q : Request) (out : List ℕ) where
+  abbrev asked : Step RowPlace (Content RecordSpans)
+  asked = contentAsked (viewWanted (q .kind)) (q .tables) (q .source)
+
+  abbrev due : Answer
+  due = answerDue 0 out (batchGiven (viewFields (q .batch)) (q .codec) (viewWanted (q .kind)) (q .tables) (q .source))
+
+  -- one of these is so
+  told-by : q .codec ≡ 0 → (x : Step RowPlace (Content RecordSpans)) → asked ≡ x → RefusedBy RowFault x → (k : ℕ) × Told q out k
+  told-by e (ok c p) f w =
+      let n : ℕ = batchLengthOf (batchAsked q c) in
+      let a : AsksLength q n = record { codec-none = e; content = c; asked = record { place = p; is = f }; length-is = refl } in
+      elim (decLe n mostLength) [
+        | yes h ↦
+            elim (decLe (uncounted + n) (length out)) [
+              | yes g ↦ (0, by-none a h g)
+              | Dec.no g ↦ (24, by-output a h (omega arith))
+            ]
+        | Dec.no h ↦ (23, by-length a (omega arith))
+      ]
+  told-by e (no n) f (l, h) =
+      elim (ℕ-discrete n 21) [
+        | yes g ↦ (21, by-row (e, f ∙ ap no g))
+        | Dec.no g ↦ let g′ : n ≡ 22 = omega arith in (22, by-key (e, f ∙ ap no g′))
+      ]
+
+  told : (k : ℕ) × Told q out k
+  told =
+      elim (ℕ-discrete (q .codec) 0) [
+        | yes e ↦ told-by e asked refl (content-refused (viewWanted (q .kind)) (q .tables) (q .source))
+        | Dec.no h ↦ (20, by-codec h)
+      ]
+
+  -- and it gives the answer
+  refused-due : {k : ℕ} → RowsRefusedBy q k → due ≡ refuses k
+  unfolding batchGiven
+  refused-due (e, f) = rw (eq-eqb (q .codec) 0 e, f) refl
+
+  length-due : {n : ℕ} → AsksLength q n → due ≡ byLengths (leb n mostLength) (leb (uncounted + n) (length out)) (uncounted + n)
+  unfolding batchGiven
+  length-due {n} a =
+      let b : Batch Record = batchAsked q (a .content) in
+      let long : length (writtenBatch b) ≡ uncounted + n = lengths-are b ∙ ap (λ (k : ℕ). uncounted + k) (a .length-is) in
+      rw (eq-eqb (q .codec) 0 (a .codec-none), a .asked .is)
+      (due-by (leb (batchLengthOf b) mostLength) (writtenBatch b) out (uncounted + n) long
+      ∙ ap (λ (k : ℕ). byLengths (leb k mostLength) (leb (uncounted + n) (length out)) (uncounted + n)) (a .length-is))
+
+  told-due : {k : ℕ} → Told q out k → due .number ≡ k
+  unfolding batchGiven
+  told-due (by-codec h) = rw (ne-eqb (q .codec) 0 h) refl
+  told-due (by-row f) = numbers (refused-due f)
+  told-due (by-key f) = numbers (refused-due f)
+  told-due (by-length {n} a h) = numbers (length-due a) ∙ rw (lt-leb n mostLength h) refl
+  told-due (by-output {n} a h g) = numbers (length-due a) ∙ rw (le-leb n mostLength h, lt-leb (uncounted + n) (length out) g) refl
+  told-due (by-none {n} a h g) = numbers (length-due a) ∙ rw (le-leb n mostLength h, le-leb (uncounted + n) (length out) g) refl
+
+  module _ (a : Answer) (e : a ≡ due) where
+    is-told : {k : ℕ} → a .number ≡ k → Told q out k
+    is-told f = let (k, t) = told in subst (Told q out) (sym (told-due t) ∙ sym (numbers e) ∙ f) t
+
+    exactly : {k : ℕ} {F : Type 0} → (Told q out k → F) → (F → Told q out k) → Exactly (a .number ≡ k) F
+    exactly f g = (λ h. f (is-told h), λ x. numbers e ∙ told-due (g x))
+
+    length-of : (n : ℕ) → AsksLength q n → a .number ≡ 0 → a .bytes ≡ uncounted + n
+    length-of n x h =
+        let is = e ∙ length-due x in
+        ap (λ (a : Answer). a .bytes) is ∙ length-by (leb n mostLength) (leb (uncounted + n) (length out)) (uncounted + n) (sym (numbers is) ∙ h)
+
+-- ---- what document 01 says of each
+
+module _ {q : Request} {out : List ℕ} where
+  codec-told : Told q out 20 → q .codec ≡ 0 → ⊥
+  codec-told (by-codec h) = h
+
+  row-told : Told q out 21 → RowsRefusedBy q 21
+  row-told (by-row f) = f
+
+  key-told : Told q out 22 → RowsRefusedBy q 22
+  key-told (by-key f) = f
+
+  length-told : Told q out 23 → (n : ℕ) × AsksLength q n × (mostLength < n)
+  length-told (by-length {n} a h) = (n, a, h)
+
+  output-told : Told q out 24 → (n : ℕ) × AsksLength q n × (n ≤ mostLength) × (length out < uncounted + n)
+  output-told (by-output {n} a h g) = (n, a, h, g)
+
+  none-told : Told q out 0 → (n : ℕ) × AsksLength q n × (n ≤ mostLength) × (uncounted + n ≤ length out)
+  none-told (by-none {n} a h g) = (n, a, h, g)
+
+  told-within : {k : ℕ} → Told q out k → (k ≡ 0) ⊎ ((20 ≤ k) × (k ≤ 24))
+  told-within (by-codec h) = inr (omega arith, omega arith)
+  told-within (by-row f) = inr (omega arith, omega arith)
+  told-within (by-key f) = inr (omega arith, omega arith)
+  told-within (by-length a h) = inr (omega arith, omega arith)
+  told-within (by-output a h g) = inr (omega arith, omega arith)
+  told-within (by-none a h g) = inl refl
+
+pub write-numbers : WriteNumbers
+write-numbers q out o w =
+    let a : Answer = viewWritten (o .result) in
+    let e = w .answer in
+    record {
+      twenty = exactly q out a e codec-told by-codec;
+      twenty-one = exactly q out a e row-told by-row;
+      twenty-two = exactly q out a e key-told by-key;
+      twenty-three = exactly q out a e length-told (λ (n, x, h). by-length x h);
+      twenty-four = exactly q out a e output-told (λ (n, x, h, g). by-output x h g);
+      accepted = exactly q out a e none-told (λ (n, x, h, g). by-none x h g);
+      length-is = length-of q out a e;
+      no-other = told-within (is-told q out a e refl);
+    }
