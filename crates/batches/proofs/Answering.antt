@@ -7,16 +7,10 @@ use mathlib.Core.List.{List}
 use lib.ListN.{length, take}
 use Rattle.primitives.specs.declared.Cursor.{Cursor}
 use Rattle.primitives.specs.Step.{Step, ok, no, mapStep}
-use Rattle.primitives.proofs.Steps.{map-ok, map-no}
-use Rattle.records.specs.declared.RecordFault.{RecordFault}
 use Rattle.records.specs.Judgement.{RecordSpans, recordsAt}
 use Rattle.records.specs.Rows.{Tables}
-use Rattle.records.specs.Answers.{recordNumberOf}
 use Rattle.records.proofs.Refusals.{records-refuses}
-use Rattle.reading.specs.declared.RecordsCheck.{RecordsCheck}
 use Rattle.reading.specs.declared.RecordsRead.{RecordsRead}
-use Rattle.reading.specs.Answers.{Counts, countsOf, viewCheck, viewRead}
-use Rattle.reading.specs.Promises.{CheckRecordsPromise, ReadRecordsPromise}
 use Rattle.layout.specs.declared.BatchFields.{BatchFields}
 use Rattle.layout.specs.Fixed.{viewBatchFields}
 use Rattle.layout.specs.Batch.{Fields, Marker, Content, control, records}
@@ -32,11 +26,11 @@ use Rattle.markers.specs.Markers.{viewMarker, viewMarkerRead}
 use Rattle.batches.specs.declared.RecordBatch.{RecordBatch}
 use Rattle.batches.specs.declared.BatchRead.{BatchRead}
 use Rattle.batches.specs.declared.BatchCheck.{BatchCheck}
-use Rattle.batches.specs.Answers.{ofRecords, ofMarker, accepts, wants, refuses, viewFields, answerWithRoom}
+use Rattle.batches.specs.Answers.{ofMarker, accepts, wants, refuses, viewFields, answerWithRoom}
 use Rattle.batches.specs.Answers as Answers
-use Rattle.batches.specs.Promises.{ReadOutcome, ReadBy}
-use Rattle.batches.specs.Reading.{ofRecordsRead}
-use Rattle.batches.proofs.Storing.{reads}
+use Rattle.batches.specs.Promises.{ReadOutcome, ReadBy, ReadBodyPromise}
+use Rattle.batches.specs.Reading.{checkOfRecordsRead, ofRecordsRead}
+use Rattle.batches.proofs.Storing.{checks, reads}
 
 -- ---- a marker needs no room
 
@@ -125,23 +119,19 @@ module _ (s : List ℕ) (at : ℕ) (a : Opened) (e : viewOpened a ≡ openAt s a
             judged-content first (mapStep records y)
             (ap (mapStep records) (sym h) ∙ ap (λ (t : Bool). contentAt bareMarkerAt t (take (at + total) s) n (next .at)) (sym g))
 
-        module _ (r : RecordsCheck) (m : CheckRecordsPromise (take (at + total) s) (next .at) n r) where
-          pub check-records-got : (k l q : ℕ) → r ≡ RecordsCheck.Accepted k l q → accepts (viewFields b) ofRecords k l total ≡ answerWithRoom (judgeAt s at 0)
-          check-records-got k l q h =
-              let (rs, reads, is) = map-ok countsOf (recordsAt (take (at + total) s) n (next .at)) (sym m ∙ ap viewCheck h) in
-              ap (λ (x : Counts). accepts (viewFields b) ofRecords (x .records) (x .headers) total) (sym is)
-              ∙ ap answerWithRoom (judged-records 0 (ok rs q) reads)
-
-          pub check-records-refused : (x : RecordFault) → r ≡ RecordsCheck.Refused x → refuses (recordNumberOf x) ≡ answerWithRoom (judgeAt s at 0)
-          check-records-refused x h =
-              ap answerWithRoom
-              (judged-records 0 (no (recordNumberOf x)) (map-no countsOf (recordsAt (take (at + total) s) n (next .at)) (sym m ∙ ap viewCheck h)))
-
         module _ (first : ℕ) (t t′ : Tables) (r : RecordsRead)
-            (m : ReadRecordsPromise (take (at + total) s) (next .at) n first t (record { result = r; tables = t′ })) where
+            (m : ReadBodyPromise (take (at + total) s) (next .at) n first t (record { result = r; tables = t′ })) where
+          abbrev found : Step ℕ (List RecordSpans)
+          found = recordsAt (take (at + total) s) n (next .at)
+
+          pub check-records-as : (x : BatchCheck) → x ≡ checkOfRecordsRead b total r → Answers.viewCheck x ≡ answerWithRoom (judgeAt s at first)
+          check-records-as x h =
+              ap Answers.viewCheck h
+              ∙ (checks b first total t found (records-refuses (take (at + total) s) n (next .at)) r (m .answer)
+              ∙ ap answerWithRoom (judged-records first found refl))
+
           pub read-records-as : (x : BatchRead) → x ≡ ofRecordsRead b total r → ReadBy (judgeAt s at first) t (record { result = x; tables = t′ })
           read-records-as x h =
-              let w = take (at + total) s in
               subst (λ (y : BatchRead). ReadBy (judgeAt s at first) t (record { result = y; tables = t′ })) (sym h)
-              (by-judgement (judged-records first (recordsAt w n (next .at)) refl)
-              (reads b first total t t′ (recordsAt w n (next .at)) (records-refuses w n (next .at)) r (m .answer) (m .tables)))
+              (by-judgement (judged-records first found refl)
+              (reads b first total t t′ found (records-refuses (take (at + total) s) n (next .at)) r (m .answer) (m .tables)))

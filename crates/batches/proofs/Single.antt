@@ -5,9 +5,11 @@ use mathlib.Core.Path.{_≡_, refl, sym, ap, _∙_}
 use mathlib.Core.Option.{Option, none, some}
 use mathlib.Core.List.{List}
 use lib.IntN.{ℤ}
+use denote.Ref.{RefT, now}
 use Rattle.numbers.specs.Single.{Single}
 use Rattle.numbers.proofs.Single.{single-value, single-view, single-exactly}
 use Rattle.records.specs.Rows.{Tables}
+use Rattle.reading.proofs.Single.{single-read-records}
 use Rattle.writing.proofs.Single.{single-written, single-write-by}
 use Rattle.layout.specs.declared.RecordBatchTimestampType.{RecordBatchTimestampType}
 use Rattle.layout.specs.Batch.{Fields}
@@ -16,12 +18,13 @@ use Rattle.layout.proofs.Single.{timestampType, type-again, time, time-again}
 use Rattle.opening.specs.Judgement.{Judgement, judge}
 use Rattle.opening.proofs.Single.{refusal, refusal-again}
 use Rattle.markers.proofs.Single.{marker, marker-again}
+use Rattle.batches.specs.declared.body.BodyReader.{BodyReader}
 use Rattle.batches.specs.declared.RecordBatch.{RecordBatch}
 use Rattle.batches.specs.declared.ControlBatchOrRecords.{ControlBatchOrRecords}
 use Rattle.batches.specs.declared.BatchCheck.{BatchCheck}
 use Rattle.batches.specs.declared.BatchRead.{BatchRead}
 use Rattle.batches.specs.Answers.{Kind, ofRecords, ofMarker, Answer, viewFields, viewKind, viewCount, viewCheck, viewRead}
-use Rattle.batches.specs.Promises.{TotalSizePromise, CheckPromise, ReadBy, ReadPromise, RecordTimePromise, MeasurePromise, WritePromise, Canonical, CanonicalPromise}
+use Rattle.batches.specs.Promises.{TotalSizePromise, CheckPromise, ReadBy, ReadPromise, BodyReaderPromise, ReadBodyPromise, ReadHeldPromise, RecordTimePromise, MeasurePromise, WritePromise, Canonical, CanonicalPromise}
 
 pub single-total-size : (n : ℤ) → Single (TotalSizePromise n)
 single-total-size n = single-value _
@@ -108,6 +111,18 @@ single-read-by j t o o′ e e′ =
 
 pub single-read : (s : List ℕ) (t : Tables) → Single (ReadPromise s t)
 single-read s t = single-read-by (judge s) t
+
+pub single-body-reader : (body : RefT (List ℕ)) (at : ℕ) → Single (BodyReaderPromise body at)
+single-body-reader body at = single-value _
+
+pub single-read-body : (s : List ℕ) (at count first : ℕ) (t : Tables) → Single (ReadBodyPromise s at count first t)
+single-read-body s at count first t = single-read-records s at count first t
+
+pub single-read-held : (r : BodyReader) (count first : ℕ) (t : Tables) → Single (ReadHeldPromise r count first t)
+single-read-held r count first t o o′ e e′ =
+    let p = single-read-body (now (r .body)) (r .at) count first t (o .read) (o′ .read) (e .read) (e′ .read) in
+    let q = e .body ∙ sym (e′ .body) in
+    λ i. record { read = p i; body = q i }
 
 pub single-record-time : (b : RecordBatch) (delta : ℤ) → Single (RecordTimePromise b delta)
 single-record-time b delta = single-view viewTime time time-again _

@@ -1,13 +1,15 @@
--- What each public function promises of its result and of what it is lent to change, the reader's tables and the writer's
--- output, for every input. All else is lent to be read: no function here can change it.
+-- What each public function promises of its result and of what it is lent to change, the reader's tables and the
+-- writer's output, for every input. All else is lent to be read: no function here can change it.
 use Prim.Native.Nat.{ℕ}
 use mathlib.Core.Path.{_≡_}
 use mathlib.Core.Bool.{Bool, true}
 use mathlib.Core.List.{List}
 use lib.IntN.{ℤ}
 use lib.ListN.{length}
+use denote.Ref.{RefT, now}
 use Rattle.numbers.specs.Exactly.{Exactly}
 use Rattle.records.specs.Rows.{Tables}
+use Rattle.reading.specs.Promises.{ReadOutcome as RecordsOutcome, ReadRecordsPromise}
 use Rattle.writing.specs.declared.Written.{Written}
 use Rattle.writing.specs.Answers.{given, viewWritten, measured}
 use Rattle.writing.specs.Promises.{WriteOutcome, WriteBy}
@@ -15,6 +17,7 @@ use Rattle.layout.specs.declared.RecordTime.{RecordTime}
 use Rattle.layout.specs.Time.{recordTime, viewTime}
 use Rattle.layout.specs.Promises as Layout
 use Rattle.opening.specs.Judgement.{accepted, Accepted, Judgement, judge}
+use Rattle.batches.specs.declared.body.BodyReader.{BodyReader}
 use Rattle.batches.specs.declared.RecordBatch.{RecordBatch}
 use Rattle.batches.specs.declared.ControlBatchOrRecords.{ControlBatchOrRecords}
 use Rattle.batches.specs.declared.BatchCheck.{BatchCheck}
@@ -44,6 +47,24 @@ pub record ReadBy (j : Judgement) (t : Tables) (o : ReadOutcome) : Type 0 where
 abbrev pub ReadPromise : List ℕ → Tables → ReadOutcome → Type 0
 ReadPromise s t o = ReadBy (judge s) t o
 
+-- BodyReader::new, of a lent body and a place: the reader holds that very body, and that place
+abbrev pub BodyReaderPromise : RefT (List ℕ) → ℕ → BodyReader → Type 0
+BodyReaderPromise body at r = r ≡ record { body = body; at = at }
+
+-- read_body, on the bytes s of a batch, a place in them, a number of records, a first header row and two tables
+abbrev pub ReadBodyPromise : List ℕ → ℕ → ℕ → ℕ → Tables → RecordsOutcome → Type 0
+ReadBodyPromise s at count first t o = ReadRecordsPromise s at count first t o
+
+-- the result of BodyReader::read_records with both tables at exit, and the body that the reader then holds
+pub record HeldOutcome : Type 0 where
+  pub read : RecordsOutcome
+  pub body : RefT (List ℕ)
+
+-- BodyReader::read_records: as read_body, of the body that the reader holds and of its place, and that body as it was
+pub record ReadHeldPromise (r : BodyReader) (count first : ℕ) (t : Tables) (o : HeldOutcome) : Type 0 where
+  pub read : ReadBodyPromise (now (r .body)) (r .at) count first t (o .read)
+  pub body : o .body ≡ r .body
+
 -- RecordBatch::record_time
 abbrev pub RecordTimePromise : RecordBatch → ℤ → RecordTime → Type 0
 RecordTimePromise b delta r = viewTime r ≡ recordTime (viewFields b) delta
@@ -56,8 +77,8 @@ MeasurePromise b codec kind t s r = viewWritten r ≡ measured (batchGiven (view
 abbrev pub WritePromise : RecordBatch → ℕ → ControlBatchOrRecords → Tables → List ℕ → List ℕ → WriteOutcome → Type 0
 WritePromise b codec kind t s out o = WriteBy (batchGiven (viewFields b) codec (viewWanted kind) t s) 0 out o
 
--- Document 01, the canonical check: the bytes, all of them, are one batch that is accepted, and equal what the writer gives
--- for it, from its own rows and these bytes.
+-- Document 01, the canonical check: the bytes, all of them, are one batch that is accepted, and equal what the writer
+-- gives for it, from its own rows and these bytes.
 pub record Canonical (s : List ℕ) : Type 0 where
   pub batch : Accepted
   pub judged : judge s ≡ accepted batch

@@ -1,4 +1,5 @@
--- Words of private contracts: none of them stands in a promise. What the steps of reading and of the canonical check give.
+-- Words of private contracts: none of them stands in a promise. What the steps of reading and of the canonical check
+-- give.
 use Prim.Native.Nat.{ℕ}
 use mathlib.Core.Bool.{Bool, false}
 use mathlib.Core.List.{List}
@@ -9,9 +10,16 @@ use Rattle.reading.specs.declared.RecordsRead.{RecordsRead}
 use Rattle.opening.specs.declared.BatchFault.{BatchFault}
 use Rattle.batches.specs.declared.RecordBatch.{RecordBatch}
 use Rattle.batches.specs.declared.ControlBatchOrRecords.{ControlBatchOrRecords}
+use Rattle.batches.specs.declared.BatchCheck.{BatchCheck}
 use Rattle.batches.specs.declared.BatchRead.{BatchRead}
 
 -- ---- the records
+
+-- a table that is short is no fault of what is checked
+abbrev pub checkOfRecordsRead : RecordBatch → ℕ → RecordsRead → BatchCheck
+checkOfRecordsRead b total (RecordsRead.Accepted n m q) = BatchCheck.Accepted b (ControlBatchOrRecords.Records n) m total
+checkOfRecordsRead b total (RecordsRead.Refused f) = BatchCheck.Refused (BatchFault.Body f)
+checkOfRecordsRead b total (RecordsRead.NoRoom n m) = BatchCheck.Accepted b (ControlBatchOrRecords.Records n) m total
 
 abbrev pub ofRecordsRead : RecordBatch → ℕ → RecordsRead → BatchRead
 ofRecordsRead b total (RecordsRead.Accepted n m q) = BatchRead.Accepted b (ControlBatchOrRecords.Records n) m total

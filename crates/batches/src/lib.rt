@@ -1,6 +1,9 @@
 // Batches of records, read from lent bytes into lent tables, and written from lent tables and a lent source into a lent
 // output. Names follow src/protocol/record.rs of rskafka 0.6.0.
+pub mod body;
+
 use asking::WriteFault;
+use body::read_body;
 use canonical::canonical_records;
 use layout::BatchFields;
 use layout::Producer;
@@ -15,10 +18,7 @@ use opening::BatchFault;
 use opening::Opened;
 use opening::open_at;
 use primitives::Cursor;
-use reading::RecordsCheck;
 use reading::RecordsRead;
-use reading::check_records;
-use reading::read_records;
 use writing::Written;
 use writing::measure_records;
 use writing::write_records;
@@ -39,7 +39,7 @@ ghost use Rattle.opening.specs.Judgement.{bareMarkerAt, judgeAt};
 ghost use Rattle.opening.specs.Opened.{judgedAs};
 ghost use Rattle.markers.specs.Markers.{viewMarker};
 ghost use Rattle.batches.specs.Answers.{viewFields, viewCheck, viewRead, answerWithRoom};
-ghost use Rattle.batches.specs.Reading.{tight, ofRecordsRead};
+ghost use Rattle.batches.specs.Reading.{tight, checkOfRecordsRead, ofRecordsRead};
 ghost use Rattle.batches.specs.Writer.{writtenBatch, mostLength, rows, contentAsked, batchGivenBy};
 ghost use Rattle.batches.specs.Promises.{TotalSizePromise, CheckPromise, ReadBy, ReadPromise, RecordTimePromise, MeasurePromise, WritePromise, CanonicalPromise};
 
@@ -228,19 +228,11 @@ fn check_at(bytes: &[u8], at: usize) -> BatchCheck
             if is_control {
                 return check_marker(&bytes[..end], next, batch, total);
             }
-            match check_records(&bytes[..end], next.at, count) {
-                RecordsCheck::Accepted {
-                    records,
-                    headers,
-                    end: _,
-                } => BatchCheck::Accepted {
-                    batch,
-                    kind: ControlBatchOrRecords::Records(records),
-                    headers,
-                    consumed: total,
-                },
-                RecordsCheck::Refused(f) => BatchCheck::Refused(BatchFault::Body(f)),
-            }
+            let s = &bytes[..end];
+            let mut no_records: [i64; 0] = [];
+            let mut no_headers: [i64; 0] = [];
+            let read = read_body(s, next.at, count, 0, &mut no_records, &mut no_headers);
+            as_check(read, batch, total)
         }
         Opened::MoreBytes(n) => BatchCheck::MoreBytes(n),
         Opened::Refused(f) => BatchCheck::Refused(f),
@@ -259,6 +251,27 @@ fn check_marker(s: &[u8], c: Cursor, batch: RecordBatch, total: usize) -> BatchC
             consumed: total,
         },
         ControlBatchRecordRead::Refused(f) => BatchCheck::Refused(f),
+    }
+}
+
+// What the reading of its records, into tables of no rows, says of a batch that is checked: that the tables are short
+// is no fault of the batch, and the counts are the same.
+fn as_check(read: RecordsRead, batch: RecordBatch, total: usize) -> BatchCheck
+    ensures { λ r. ⌜ r ≡ checkOfRecordsRead batch total read ⌝ }
+{
+    match read {
+        RecordsRead::Accepted {
+            records,
+            headers,
+            end: _,
+        }
+        | RecordsRead::NoRoom { records, headers } => BatchCheck::Accepted {
+            batch,
+            kind: ControlBatchOrRecords::Records(records),
+            headers,
+            consumed: total,
+        },
+        RecordsRead::Refused(f) => BatchCheck::Refused(BatchFault::Body(f)),
     }
 }
 
@@ -286,7 +299,7 @@ fn read_at(
                 return as_read(check_marker(&bytes[..end], next, batch, total));
             }
             let s = &bytes[..end];
-            let read = read_records(s, next.at, count, first_header_row, records, headers);
+            let read = read_body(s, next.at, count, first_header_row, records, headers);
             of_records(read, batch, total)
         }
         Opened::MoreBytes(n) => BatchRead::MoreBytes(n),

@@ -1,6 +1,6 @@
 -- `batches::check_at` meets its contract. Assumes nothing.
 use Rattle.opening.proofs.Judging.{cut-length}
-use Rattle.batches.proofs.Answering.{opened-within, check-more, check-refused, check-marker, check-records-got, check-records-refused}
+use Rattle.batches.proofs.Answering.{opened-within, check-more, check-refused, check-marker, check-records-as}
 use native.Mathlib.Omega.{arith}
 use borrow.Author.Needs.{needs}
 use Rattle.batches.proofs.check_at.Statement.{statement}
@@ -27,35 +27,35 @@ check-marker-requires c κs = search needs
 returns : tie.Need-returns
 returns c = search check-marker
 
-slice-aggregate-check-records : tie.Need-slice-aggregate-check-records
-slice-aggregate-check-records c = cut-length _ _ (opened-within _ _ _ (c .before .before .before .before .before .before .open-at .ensures) _ _ _ _ _ (c .before .before .before .before .fields .given .1))
+slice-aggregate-s : tie.Need-slice-aggregate-s
+slice-aggregate-s c = cut-length _ _ (opened-within _ _ _ (c .before .before .before .before .before .before .open-at .ensures) _ _ _ _ _ (c .before .before .before .before .fields .given .1))
 
-check-records-requires : tie.Need-check-records-requires
-check-records-requires c κs = search needs
+slice-aggregate-read-body : tie.Need-slice-aggregate-read-body
+slice-aggregate-read-body c = search needs
 
-enum-known-records : tie.Need-enum-known-records
-enum-known-records c = search needs
+slice-aggregate-read-body-2 : tie.Need-slice-aggregate-read-body-2
+slice-aggregate-read-body-2 c = search needs
 
-enum-known-f : tie.Need-enum-known-f
-enum-known-f c = search needs
+read-body-requires : tie.Need-read-body-requires
+read-body-requires c κs = search needs
+
+as-check-requires : tie.Need-as-check-requires
+as-check-requires c κs = search needs
 
 enum-known-n : tie.Need-enum-known-n
 enum-known-n c = search needs
 
-enum-known-f-2 : tie.Need-enum-known-f-2
-enum-known-f-2 c = search needs
+enum-known-f : tie.Need-enum-known-f
+enum-known-f c = search needs
 
 returns-2 : tie.Need-returns-2
-returns-2 c = search check-records-got
+returns-2 c = search check-records-as
 
 returns-3 : tie.Need-returns-3
-returns-3 c = search check-records-refused
+returns-3 c = search check-more
 
 returns-4 : tie.Need-returns-4
-returns-4 c = search check-more
-
-returns-5 : tie.Need-returns-5
-returns-5 c = search check-refused
+returns-4 c = search check-refused
 
 pub check-at-spec : {M : Type 1} → statement M
 check-at-spec =
@@ -68,13 +68,13 @@ check-at-spec =
     slice-aggregate-check-marker
     check-marker-requires
     returns
-    slice-aggregate-check-records
-    check-records-requires
-    enum-known-records
-    enum-known-f
+    slice-aggregate-s
+    slice-aggregate-read-body
+    slice-aggregate-read-body-2
+    read-body-requires
+    as-check-requires
     enum-known-n
-    enum-known-f-2
+    enum-known-f
     returns-2
     returns-3
-    returns-4
-    returns-5)
+    returns-4)

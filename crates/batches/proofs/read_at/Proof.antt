@@ -33,8 +33,8 @@ returns c = search read-marker
 slice-aggregate-s : tie.Need-slice-aggregate-s
 slice-aggregate-s c = cut-length _ _ (opened-within _ _ _ (c .before .before .before .before .before .before .open-at .ensures) _ _ _ _ _ (c .before .before .before .before .fields .given .1))
 
-read-records-requires : tie.Need-read-records-requires
-read-records-requires c κs = search needs
+read-body-requires : tie.Need-read-body-requires
+read-body-requires c κs = search needs
 
 of-records-requires : tie.Need-of-records-requires
 of-records-requires c κs = search needs
@@ -73,7 +73,7 @@ read-at-spec =
     as-read-requires
     returns
     slice-aggregate-s
-    read-records-requires
+    read-body-requires
     of-records-requires
     enum-known-n
     enum-known-f
