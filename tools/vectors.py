@@ -654,6 +654,7 @@ def records_examples(text):
             records(text, ACCEPTED, record_of(key_length=key, key="", value_length=value, value=""))
     for attributes in ("01", "FF"):
         records(text, ACCEPTED, record_of(attributes=attributes))
+    records(text, ACCEPTED, bytes.fromhex("0CFF0000010100"))
 
 
 def records_cut(text):
@@ -690,6 +691,7 @@ def records_lengths(text):
         for n in (least - 1, -2 ** 31):
             records(text, NEGATIVE_LENGTH, record_of(upto=part, **{part: varying(n).hex()}))
         records(text, PAST_END, record_of(**{part: varying(GREATEST_LENGTH).hex()}))
+    records(text, NEGATIVE_LENGTH, bytes.fromhex("100000000101020001"))
 
 
 def records_numbers(text):
