@@ -15,11 +15,12 @@ use Rattle.primitives.specs.Step.{ok, times}
 use Rattle.primitives.specs.Reading.{Span, bytesOf}
 use Rattle.primitives.proofs.Steps.{times-onto}
 use Rattle.utf8.proofs.Sequences.{utf8-complete}
+use Rattle.records.specs.Inside.{NullableInside}
 use Rattle.records.specs.Judgement.{HeaderSpans, RecordSpans, Head}
 use Rattle.records.specs.Rows.{spanRow, headerRow, recordRow, headersIn, recordRows, headerRows, Tables, roomy, withRows}
 use Rattle.records.specs.Statements.{Each}
 use Rattle.records.proofs.Held.{RowHeld, RowsHeld, record-rows-held, header-rows-held, record-rows-there, header-rows-there}
-use Rattle.records.proofs.Inside.{NullOrInside, HeaderInside, RecordInside}
+use Rattle.records.proofs.Inside.{HeaderInside, RecordInside}
 use Rattle.asking.specs.Asked.{askedBytes, askedNullable, headerAsked, askedCount, headAsked, rowPlace, recordAsked, recordsAsked}
 
 -- ---- two numbers of a row
@@ -40,7 +41,7 @@ span-row : (x : Option Span) → spanRow x ≡ startOf x ∷ lengthOf x ∷ []
 span-row none = refl
 span-row (some x) = refl
 
-nullable-asked : (s : List ℕ) (x : Option Span) (p : ℕ) → NullOrInside s x → askedNullable (length s) (startOf x) (lengthOf x) p ≡ ok x p
+nullable-asked : (s : List ℕ) (x : Option Span) (p : ℕ) → NullableInside s x → askedNullable (length s) (startOf x) (lengthOf x) p ≡ ok x p
 nullable-asked s none p h = refl
 nullable-asked s (some x) p h = rw (bytes-asked (length s) x p h)
 

@@ -1,6 +1,6 @@
 -- Where an encoding stands, the spans of its parts lie in the list, the keys that they show are UTF-8, and the numbers are
 -- of their width. Assumes nothing.
-use Prim.Native.Nat.{ℕ, _+_, _≤_}
+use Prim.Native.Nat.{ℕ, _+_}
 use mathlib.Core.Path.{sym, subst}
 use mathlib.Core.Bool.{Bool, true}
 use mathlib.Core.Option.{Option, none, some}
@@ -9,10 +9,11 @@ use native.Mathlib.Omega.{arith}
 use lib.ListN.{length}
 use Rattle.numbers.specs.Format.{InBits, Sized, Nullable}
 use Rattle.primitives.specs.Stands.{Stands}
-use Rattle.primitives.specs.Reading.{Span, bytesOf}
+use Rattle.primitives.specs.Reading.{bytesOf}
 use Rattle.primitives.proofs.Places.{first, second}
 use Rattle.utf8.specs.Grammar.{Octets}
 use Rattle.records.specs.Format.{Header, Record, Run, HeaderBytes, RecordBytes, RecordsBytes}
+use Rattle.records.specs.Inside.{Inside, NullableInside}
 use Rattle.records.specs.Judgement.{HeaderSpans, RecordSpans}
 use Rattle.records.specs.Placed.{placedBytes, placedNullable, placedHeader, placedRun, placedRecord, placedRecords}
 use Rattle.records.specs.Statements.{Each}
@@ -21,13 +22,6 @@ use Rattle.records.proofs.Shows.{bytes-shows}
 
 -- ---- what is said of spans
 
-abbrev pub Inside : List ℕ → Span → Type 0
-Inside s x = x .start + x .len ≤ length s
-
-abbrev pub NullOrInside : List ℕ → Option Span → Type 0
-NullOrInside s none = Unit {0}
-NullOrInside s (some x) = Inside s x
-
 pub record HeaderInside (s : List ℕ) (h : HeaderSpans) : Type 0 where
   pub key : Inside s (h .key)
   pub utf8 : Octets (bytesOf s (h .key))
@@ -35,8 +29,8 @@ pub record HeaderInside (s : List ℕ) (h : HeaderSpans) : Type 0 where
 
 pub record RecordInside (s : List ℕ) (r : RecordSpans) : Type 0 where
   pub offset : InBits 32 (r .offsetDelta)
-  pub key : NullOrInside s (r .key)
-  pub value : NullOrInside s (r .value)
+  pub key : NullableInside s (r .key)
+  pub value : NullableInside s (r .value)
   pub headers : Each (HeaderInside s) (r .headers)
 
 -- ---- and holds of those of an encoding
@@ -46,7 +40,7 @@ bytes-inside : {strict : Bool} {s : List ℕ} {p q : ℕ} {bs : List ℕ} (v : L
 bytes-inside v x g = let y = sized-stands x g in omega (arith, y .end, y .within)
 
 nullable-inside : (strict : Bool) {s : List ℕ} {p q : ℕ} {bs : List ℕ} (v : Option (List ℕ)) → Stands s p q bs → (g : Nullable true strict bs v)
-    → NullOrInside s (placedNullable strict bs v p g)
+    → NullableInside s (placedNullable strict bs v p g)
 nullable-inside strict none x g = tt
 nullable-inside strict (some v) x g = bytes-inside v x g
 

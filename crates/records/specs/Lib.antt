@@ -1,5 +1,6 @@
 pub mod Format
 pub mod Written
+pub mod Inside
 pub mod Judgement
 pub mod Rows
 pub mod Placed

@@ -10,11 +10,11 @@ use lib.Seq.{length-take-le}
 use Rattle.numbers.specs.Format.{zigzag, shortest}
 use Rattle.numbers.proofs.Shortest.{fewest-groups, groups-length}
 use Rattle.primitives.specs.Reading.{Span, bytesOf, shown}
+use Rattle.records.specs.Inside.{Inside}
 use Rattle.records.specs.Placed.{shownHeader, shownRecord, shownRecords}
 use Rattle.records.specs.Statements.{Each}
 use Rattle.records.specs.Written.{writtenBytes, writtenNullable, writtenHeader, writtenHeaders, writtenFields, writtenRecord, writtenRecords}
 use Rattle.records.proofs.Encodes.{written-length}
-use Rattle.sizes.specs.Inside.{Inside}
 use Rattle.sizes.specs.Sizes.{spanSize, headSize, headersSize, fieldsSize, recordsSize}
 use Rattle.sizes.specs.Statements.{NumberSmall, BytesSized, NullableSized, HeaderSized, HeadersSized, FieldsSized, RecordSized, RecordsSized}
 

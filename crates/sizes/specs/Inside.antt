@@ -1,18 +1,9 @@
--- Spans that lie inside a source.
-use Prim.Native.Nat.{ℕ, _+_, _≤_}
-use mathlib.Core.Option.{Option, none, some}
+-- Records whose spans lie inside a source.
+use Prim.Native.Nat.{ℕ}
 use mathlib.Core.List.{List}
-use lib.ListN.{length}
-use Rattle.primitives.specs.Reading.{Span}
+use Rattle.records.specs.Inside.{Inside, NullableInside}
 use Rattle.records.specs.Judgement.{HeaderSpans, RecordSpans}
 use Rattle.records.specs.Statements.{Each}
-
-abbrev pub Inside : List ℕ → Span → Type 0
-Inside s x = x .start + x .len ≤ length s
-
-abbrev pub NullableInside : List ℕ → Option Span → Type 0
-NullableInside s none = Unit {0}
-NullableInside s (some x) = Inside s x
 
 pub record HeaderInside (s : List ℕ) (h : HeaderSpans) : Type 0 where
   pub key : Inside s (h .key)

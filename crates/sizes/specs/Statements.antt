@@ -10,11 +10,12 @@ use lib.ListN.{length}
 use Rattle.numbers.specs.Format.{shortest}
 use Rattle.primitives.specs.Reading.{Span, shown}
 use Rattle.records.specs.Format.{Record, FieldsBytes}
+use Rattle.records.specs.Inside.{NullableInside}
 use Rattle.records.specs.Judgement.{HeaderSpans, RecordSpans}
 use Rattle.records.specs.Placed.{placedFields, shownHeader, shownRecord, shownRecords}
 use Rattle.records.specs.Statements.{Each}
 use Rattle.records.specs.Written.{writtenBytes, writtenNullable, writtenHeader, writtenHeaders, writtenFields, writtenRecord, writtenRecords}
-use Rattle.sizes.specs.Inside.{NullableInside, HeaderInside, RecordInside}
+use Rattle.sizes.specs.Inside.{HeaderInside, RecordInside}
 use Rattle.sizes.specs.Sizes.{spanSize, placeSize, lengthIn, headerSize, headersSize, fieldsSize, recordSize, recordsSize}
 
 -- The shortest bytes of a number are at most ten.

@@ -12,10 +12,11 @@ use Rattle.primitives.specs.Step.{ok, times}
 use Rattle.primitives.specs.Reading.{Span}
 use Rattle.primitives.proofs.Steps.{ok-not-no, map-ok, and-then-ok, pick-ok, times-each}
 use Rattle.primitives.proofs.Picks.{picked}
+use Rattle.records.specs.Inside.{NullableInside}
 use Rattle.records.specs.Judgement.{HeaderSpans, RecordSpans, Head, withHeaders}
 use Rattle.records.specs.Rows.{Tables}
 use Rattle.records.specs.Statements.{Each}
-use Rattle.sizes.specs.Inside.{NullableInside, HeaderInside, RecordInside}
+use Rattle.sizes.specs.Inside.{HeaderInside, RecordInside}
 use Rattle.asking.specs.declared.AskedHeader.{AskedHeader}
 use Rattle.asking.specs.declared.HeaderAsked.{HeaderAsked}
 use Rattle.asking.specs.Asked.{cell, askedBytes, askedNullable, askedCount, headerAsked, headerRowAsked, headAsked, RowPlace, recordAsked}

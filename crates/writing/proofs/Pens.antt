@@ -17,8 +17,8 @@ use Rattle.numbers.specs.Promises.{PutPromise}
 use Rattle.numbers.proofs.Pens.{put-emits, emit-emit}
 use Rattle.primitives.specs.declared.Span.{Span as Declared}
 use Rattle.primitives.specs.Reading.{bytesOf, shown}
+use Rattle.records.specs.Inside.{NullableInside}
 use Rattle.records.specs.Written.{writtenBytes, writtenNullable}
-use Rattle.sizes.specs.Inside.{NullableInside}
 use Rattle.asking.specs.declared.Shown.{Shown}
 use Rattle.asking.specs.Answers.{spanOf}
 
