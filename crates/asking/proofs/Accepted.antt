@@ -1,5 +1,5 @@
--- What is so of rows that are accepted: bytes that they ask for lie in the source, headers in their table, and they are as
--- many as were asked for. Assumes nothing.
+-- What is so of rows that are accepted: bytes that they ask for lie in the source, headers in their table, and they are
+-- as many as were asked for. Assumes nothing.
 use Prim.Native.Nat.{ℕ, _+_, _/_, _≤_}
 use mathlib.Core.List.{List}
 use mathlib.Core.Path.{_≡_, sym, ap, subst}

@@ -70,7 +70,8 @@ fn is_told(s: &[u8], told: &[u8]) -> bool {
     check_is(s, answer) && read_is(s, room, answer, more, &mut records, &mut headers)
 }
 
-// cuts HEX K R H ANSWER[|..]: what each part that starts at the first byte is answered. One of them has to have K bytes.
+// cuts HEX K R H ANSWER[|..]: what each part that starts at the first byte is answered. One of them has to have K
+// bytes.
 pub fn agrees_cut(s: &[u8], line: &[u8]) -> bool {
     let Spelled::Count(whole) = unsigned(word(line, 2)) else {
         return false;

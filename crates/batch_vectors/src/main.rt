@@ -1,5 +1,5 @@
-// Runs the libraries `batches`, `writing` and `canonical` on the cases of the text on standard input, whose expectations
-// come from elsewhere. It prints a line for each group of cases.
+// Runs the libraries `batches`, `writing` and `canonical` on the cases of the text on standard input, whose
+// expectations come from elsewhere. It prints a line for each group of cases.
 mod agreement;
 mod batch;
 mod exact;

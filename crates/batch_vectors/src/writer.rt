@@ -30,8 +30,9 @@ const LONGEST: usize = 256;
 
 const SPARE: usize = 100;
 
-// How many numbers a case has before its tables. Of a batch: codec, kind, count of records, ten fields, and document 01's
-// number. Of records: the first header row, their count, the place where they are written, and document 01's number.
+// How many numbers a case has before its tables. Of a batch: codec, kind, count of records, ten fields, and document
+// 01's number. Of records: the first header row, their count, the place where they are written, and document 01's
+// number.
 const OF_BATCH: usize = 14;
 
 const OF_RECORDS: usize = 4;

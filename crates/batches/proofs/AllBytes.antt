@@ -1,5 +1,5 @@
--- An encoding of a batch whose marker or records are shown by bytes consists of bytes: its integers do, and so does what
--- follows them. Assumes nothing.
+-- An encoding of a batch whose marker or records are shown by bytes consists of bytes: its integers do, and so does
+-- what follows them. Assumes nothing.
 use Prim.Native.Nat.{ℕ}
 use mathlib.Core.Path.{sym, subst}
 use mathlib.Core.Bool.{Bool}

@@ -1,5 +1,5 @@
--- What the check and the reading of a batch return: by what was opened, by its control bit, and by what the marker or the
--- records say. The premises have the form in which a proof finds them. Assumes nothing.
+-- What the check and the reading of a batch return: by what was opened, by its control bit, and by what the marker or
+-- the records say. The premises have the form in which a proof finds them. Assumes nothing.
 use Prim.Native.Nat.{ℕ, _+_, _≤_}
 use mathlib.Core.Path.{_≡_, refl, sym, ap, _∙_, subst}
 use mathlib.Core.Bool.{Bool, true, false}

@@ -1,5 +1,5 @@
--- The canonical bytes are those of the strict grammar: what the writer gives of a batch that was read is an encoding of it
--- by that grammar, which has no other. Assumes nothing.
+-- The canonical bytes are those of the strict grammar: what the writer gives of a batch that was read is an encoding of
+-- it by that grammar, which has no other. Assumes nothing.
 use Prim.Native.Nat.{ℕ, _+_}
 use mathlib.Core.Path.{_≡_, refl, sym, ap, _∙_, subst}
 use mathlib.Core.Bool.{true}

@@ -1,5 +1,5 @@
--- What is answered of a batch's fields is answered of the batch. The premises have the form in which a proof finds them.
--- Assumes nothing.
+-- What is answered of a batch's fields is answered of the batch. The premises have the form in which a proof finds
+-- them. Assumes nothing.
 use mathlib.Core.Path.{_≡_, ap, _∙_}
 use lib.IntN.{ℤ, pos, _+ℤ_}
 use mir.Syntax.{w32, w64}

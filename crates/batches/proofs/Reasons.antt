@@ -1,5 +1,5 @@
--- "More bytes" comes only where a length says so, and "no room" only where a batch is accepted and a table is short: the
--- number of an answer tells which judgement it is by, since a refusal is by none but 2 to 13. Assumes nothing.
+-- "More bytes" comes only where a length says so, and "no room" only where a batch is accepted and a table is short:
+-- the number of an answer tells which judgement it is by, since a refusal is by none but 2 to 13. Assumes nothing.
 use Prim.Native.Nat.{ℕ, _+_, _/_, _<_}
 use mathlib.Core.Path.{_≡_, refl, sym, ap, _∙_, subst}
 use mathlib.Core.Bool.{true, false, true≢false}

@@ -1,5 +1,5 @@
--- Where a refusal comes from, as a type: each place refuses by its own numbers, and what is refused is refused at one of
--- them. Assumes nothing.
+-- Where a refusal comes from, as a type: each place refuses by its own numbers, and what is refused is refused at one
+-- of them. Assumes nothing.
 use Prim.Native.Nat.{ℕ, _+_}
 use mathlib.Core.Path.{_≡_, sym, ap, _∙_, subst}
 use mathlib.Core.Bool.{Bool, true, false}

@@ -1,5 +1,5 @@
--- What two outcomes by one judgement have in common: by cases on the judgement, and on whether there is room for what is
--- accepted. Larger tables have the room that smaller ones have. Assumes nothing.
+-- What two outcomes by one judgement have in common: by cases on the judgement, and on whether there is room for what
+-- is accepted. Larger tables have the room that smaller ones have. Assumes nothing.
 use Prim.Native.Nat.{ℕ, _+_, _<_, _≤_}
 use mathlib.Core.Path.{_≡_, refl, sym, ap, _∙_}
 use mathlib.Core.Bool.{Bool, true, false}

@@ -1,5 +1,5 @@
--- Each promise admits a single answer: from what the answer says it can be made again, and the tables and the output are
--- given. Assumes nothing.
+-- Each promise admits a single answer: from what the answer says it can be made again, and the tables and the output
+-- are given. Assumes nothing.
 use Prim.Native.Nat.{ℕ}
 use mathlib.Core.Path.{_≡_, refl, sym, ap, _∙_}
 use mathlib.Core.Option.{Option, none, some}

@@ -1,5 +1,5 @@
--- A judgement stands: what it asks of a list lies within it, so that a longer list answers the same, and the batch's own
--- bytes are the same bytes. So the answers by it are those of one judgement. Assumes nothing.
+-- A judgement stands: what it asks of a list lies within it, so that a longer list answers the same, and the batch's
+-- own bytes are the same bytes. So the answers by it are those of one judgement. Assumes nothing.
 use Prim.Native.Nat.{ℕ, _+_, _^_, _*_, _-_, _≤_}
 use mathlib.Core.Path.{_≡_, refl, ap, _∙_, subst}
 use mathlib.Core.List.{List, _++_}

@@ -1,6 +1,6 @@
--- A batch of the grammar is one of the strict grammar where three bytes of its fixed fields are low and its marker or its
--- records are strict; and there they are. So what was opened of all the bytes, these bytes and the content tell whether
--- the bytes are canonical. The premises have the form in which a proof finds them. Assumes nothing.
+-- A batch of the grammar is one of the strict grammar where three bytes of its fixed fields are low and its marker or
+-- its records are strict; and there they are. So what was opened of all the bytes, these bytes and the content tell
+-- whether the bytes are canonical. The premises have the form in which a proof finds them. Assumes nothing.
 use Prim.Native.Nat.{ℕ, _+_, _*_, _^_, _≤_, _<_}
 use mathlib.Core.Path.{_≡_, refl, sym, ap, _∙_, subst, subst₂}
 use mathlib.Core.Bool.{Bool, true, false, not}

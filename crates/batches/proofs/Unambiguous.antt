@@ -1,5 +1,6 @@
--- A batch is accepted at the front of any list, and the judgement gives one answer: so no encoding is a proper beginning
--- of another, two batches do not share one, and after a refusal that stands there is no batch. Assumes nothing.
+-- A batch is accepted at the front of any list, and the judgement gives one answer: so no encoding is a proper
+-- beginning of another, two batches do not share one, and after a refusal that stands there is no batch. Assumes
+-- nothing.
 use Prim.Native.Nat.{ℕ}
 use mathlib.Core.Path.{_≡_, refl, sym, ap, _∙_}
 use mathlib.Core.Bool.{Bool, true, false}

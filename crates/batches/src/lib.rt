@@ -63,8 +63,8 @@ pub enum ControlBatchOrRecords {
     Records(usize),
 }
 
-// What a batch is found to be: its fields, its kind, how many headers its records have, and how many bytes it has; or how
-// many bytes are needed, counted from its first; or why it is refused.
+// What a batch is found to be: its fields, its kind, how many headers its records have, and how many bytes it has; or
+// how many bytes are needed, counted from its first; or why it is refused.
 pub enum BatchCheck {
     Accepted {
         batch: RecordBatch,
@@ -465,7 +465,8 @@ impl RecordBatch {
     }
 }
 
-// What is read and never written shows in three bytes of the fixed fields: attribute bits above bit 5, and a count of -1.
+// What is read and never written shows in three bytes of the fixed fields: attribute bits above bit 5, and a count of
+// -1.
 fn is_tight(bytes: &[u8]) -> bool
     requires { ⌜ fixedPart ≤ length (now bytes) ⌝ }
     ensures { λ r. ⌜ r ≡ tight (now (bytes .entry)) ⌝ }

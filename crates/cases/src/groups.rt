@@ -35,8 +35,8 @@ pub fn line_end(text: &[u8], from: usize) -> usize
     text.len()
 }
 
-// The counts of a text of so many bytes. One that fills its room may have been cut, and one without cases shows nothing:
-// either counts as a case that differs.
+// The counts of a text of so many bytes. One that fills its room may have been cut, and one without cases shows
+// nothing: either counts as a case that differs.
 pub fn whole(t: Tally, n: usize) -> Tally {
     let t = t.settled();
     if n < ROOM {

@@ -1,4 +1,5 @@
-// The fixed fields of a batch, and how they are laid out as bytes. Names follow src/protocol/record.rs of rskafka 0.6.0.
+// The fixed fields of a batch, and how they are laid out as bytes. Names follow src/protocol/record.rs of rskafka
+// 0.6.0.
 use crc32c::crc32c;
 use crc32c::update;
 use numbers::Int8;

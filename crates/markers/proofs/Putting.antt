@@ -1,4 +1,5 @@
--- The bytes of a marker, and that they are put. The premises have the form in which a proof finds them. Assumes nothing.
+-- The bytes of a marker, and that they are put. The premises have the form in which a proof finds them. Assumes
+-- nothing.
 use Prim.Native.Nat.{ℕ}
 use mathlib.Core.Path.{_≡_, refl, sym, ap, _∙_, subst}
 use mathlib.Core.List.{List, [], _∷_}

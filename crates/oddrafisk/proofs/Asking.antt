@@ -1,5 +1,5 @@
--- What entries ask for, and what is given for them, by the tests that the code makes. The premises have the form in which a
--- proof finds them. Assumes nothing.
+-- What entries ask for, and what is given for them, by the tests that the code makes. The premises have the form in
+-- which a proof finds them. Assumes nothing.
 use Prim.Native.Nat.{ℕ, _+_, _≤_}
 use mathlib.Core.Path.{_≡_, refl, sym, ap, subst, _∙_}
 use mathlib.Core.Bool.{Bool, true, false, not}

@@ -1,5 +1,5 @@
--- No count is above the bytes of the longest batch: batchLength has 31 bits, and the bytes of a batch bound its records and
--- their headers. Assumes nothing.
+-- No count is above the bytes of the longest batch: batchLength has 31 bits, and the bytes of a batch bound its records
+-- and their headers. Assumes nothing.
 use Prim.Native.Nat.{ℕ, suc, _+_, _*_, _-_, _<_, _≤_, _^_}
 use mathlib.Core.Path.{_≡_, refl, subst}
 use mathlib.Core.Bool.{Bool, true, false}

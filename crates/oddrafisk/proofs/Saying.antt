@@ -1,5 +1,5 @@
--- What is said of an answer, from what the layer below promises of it. The premises have the form in which a proof finds
--- them. Assumes nothing.
+-- What is said of an answer, from what the layer below promises of it. The premises have the form in which a proof
+-- finds them. Assumes nothing.
 use Prim.Native.Nat.{ℕ}
 use mathlib.Core.Path.{_≡_, refl, sym, ap, _∙_, subst, subst⁻¹}
 use mathlib.Core.Bool.{Bool, true, false, not, true≢false}

@@ -1,4 +1,5 @@
--- Each promise admits a single answer: it gives the number, the entries and what is lent to be changed. Assumes nothing.
+-- Each promise admits a single answer: it gives the number, the entries and what is lent to be changed. Assumes
+-- nothing.
 use Prim.Native.Nat.{ℕ}
 use mathlib.Core.Path.{_≡_, sym, _∙_}
 use mathlib.Core.List.{List}

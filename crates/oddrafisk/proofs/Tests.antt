@@ -1,4 +1,5 @@
--- Numbers of 64 bits as the machine tests them: which are of a narrower width, and which number they are. Assumes nothing.
+-- Numbers of 64 bits as the machine tests them: which are of a narrower width, and which number they are. Assumes
+-- nothing.
 use Prim.Native.Nat.{ℕ, suc, _-_, _*_, _<_, _^_}
 use mathlib.Core.Path.{_≡_, refl, sym, _∙_, subst}
 use mathlib.Core.Bool.{true, false}

@@ -1,5 +1,6 @@
--- What the reading of length and magic returns: by whether the fields are there, by the sign and size of batchLength, by
--- the magic and by whether all bytes are there. The premises have the form in which a proof finds them. Assumes nothing.
+-- What the reading of length and magic returns: by whether the fields are there, by the sign and size of batchLength,
+-- by the magic and by whether all bytes are there. The premises have the form in which a proof finds them. Assumes
+-- nothing.
 use Prim.Native.Nat.{ℕ, _+_, _-_, _*_, _^_, _≤_, _<_}
 use mathlib.Core.Path.{_≡_, refl, sym, ap, _∙_, subst}
 use mathlib.Core.Bool.{true, false, true≢false}

@@ -1,5 +1,5 @@
--- What the opening of a batch returns, how the judgement goes on from it, and that it lies within the bytes. The premises
--- have the form in which a proof finds them. Assumes nothing.
+-- What the opening of a batch returns, how the judgement goes on from it, and that it lies within the bytes. The
+-- premises have the form in which a proof finds them. Assumes nothing.
 use Prim.Native.Nat.{ℕ, _+_, _^_, _≤_}
 use mathlib.Core.Path.{_≡_, refl, sym, ap, _∙_, subst}
 use mathlib.Core.Bool.{Bool, true, false}

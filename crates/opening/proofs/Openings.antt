@@ -1,5 +1,5 @@
--- What the opening of a batch returns: the checksum, and then the fields under it, one after the other. The premises have
--- the form in which a proof finds them. Assumes nothing.
+-- What the opening of a batch returns: the checksum, and then the fields under it, one after the other. The premises
+-- have the form in which a proof finds them. Assumes nothing.
 use Prim.Native.Nat.{ℕ, _+_, _-_, _≤_}
 use mathlib.Core.Path.{_≡_, sym, ap, _∙_}
 use mathlib.Core.Bool.{Bool, true, false, not}

@@ -1,5 +1,5 @@
--- Reading a code and its groups of seven bits agree byte by byte: a byte with its top bit set is a group before the last,
--- any other is the last. Assumes nothing.
+-- Reading a code and its groups of seven bits agree byte by byte: a byte with its top bit set is a group before the
+-- last, any other is the last. Assumes nothing.
 use Prim.Native.Nat.{ℕ, zero, suc, _+_, _-_, _*_, _/_, _%_, _^_, _≤_, _<_}
 use mathlib.Core.Path.{_≡_, refl, sym, ap, _∙_}
 use mathlib.Core.List.{List, _∷_}

@@ -1,6 +1,6 @@
--- What the methods that read an integer return, over the width: the bytes' number, turned to its sign and narrowed to its
--- type, which holds it since the bytes are as many as the type has. The premises have the form in which a proof finds
--- them. Assumes nothing.
+-- What the methods that read an integer return, over the width: the bytes' number, turned to its sign and narrowed to
+-- its type, which holds it since the bytes are as many as the type has. The premises have the form in which a proof
+-- finds them. Assumes nothing.
 use Prim.Native.Nat.{ℕ, _-_, _*_, _^_, _≤_, _<_}
 use mathlib.Core.Path.{_≡_, refl, sym, ap, _∙_}
 use mathlib.Core.List.{List}

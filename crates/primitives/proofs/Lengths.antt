@@ -1,5 +1,5 @@
--- What the methods that read a length, and bytes after it, return: by the sign of the number, by whether it is -1, and by
--- whether the bytes are there. The premises have the form in which a proof finds them. Assumes nothing.
+-- What the methods that read a length, and bytes after it, return: by the sign of the number, by whether it is -1, and
+-- by whether the bytes are there. The premises have the form in which a proof finds them. Assumes nothing.
 use Prim.Native.Nat.{ℕ, zero, suc, _+_, _-_, _≤_, _<_}
 use mathlib.Core.Path.{_≡_, sym, ap, _∙_}
 use mathlib.Core.Bool.{Bool, true, false}

@@ -1,5 +1,5 @@
--- Each promise admits a single answer: it gives the answer itself, or what the answer says, from which the answer can be
--- made again. Assumes nothing.
+-- Each promise admits a single answer: it gives the answer itself, or what the answer says, from which the answer can
+-- be made again. Assumes nothing.
 use Prim.Native.Nat.{ℕ}
 use mathlib.Core.Path.{_≡_, refl, ap}
 use mathlib.Core.Bool.{Bool}

@@ -1,5 +1,5 @@
--- A turn of the loop that reads a code: the code is v and p times what is still to be read, and p times the largest that
--- can still come fits 64 bits. Assumes nothing.
+-- A turn of the loop that reads a code: the code is v and p times what is still to be read, and p times the largest
+-- that can still come fits 64 bits. Assumes nothing.
 use Prim.Native.Nat.{ℕ, suc, _+_, _-_, _*_, _^_, _≤_, _<_}
 use mathlib.Core.Path.{_≡_, refl, sym, ap, _∙_}
 use mathlib.Core.List.{List}

@@ -1,5 +1,5 @@
--- The laws of codes at each width: the full bytes and the last one's limit hold just what the width holds, and the zigzag
--- turns codes and numbers into each other. Assumes nothing.
+-- The laws of codes at each width: the full bytes and the last one's limit hold just what the width holds, and the
+-- zigzag turns codes and numbers into each other. Assumes nothing.
 use Prim.Native.Nat.{ℕ, _-_, _*_, _^_, _≤_, _<_}
 use mathlib.Core.Path.{_≡_, sym, ap, _∙_, subst}
 use mathlib.Core.Bool.{false}

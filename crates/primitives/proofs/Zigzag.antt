@@ -1,5 +1,5 @@
--- The zigzag and its inverse, by the code's parity: a code is twice the number's size, or one more where it is negative.
--- Assumes nothing.
+-- The zigzag and its inverse, by the code's parity: a code is twice the number's size, or one more where it is
+-- negative. Assumes nothing.
 use Prim.Native.Nat.{ℕ, _+_, _*_, _/_, _%_}
 use mathlib.Core.Path.{_≡_, ap}
 use native.Mathlib.Omega.{arith}

@@ -1,5 +1,5 @@
--- Where an encoding stands, the spans of its parts lie in the list, the keys that they show are UTF-8, and the numbers are
--- of their width. Assumes nothing.
+-- Where an encoding stands, the spans of its parts lie in the list, the keys that they show are UTF-8, and the numbers
+-- are of their width. Assumes nothing.
 use Prim.Native.Nat.{ℕ, _+_}
 use mathlib.Core.Path.{sym, subst}
 use mathlib.Core.Bool.{Bool, true}

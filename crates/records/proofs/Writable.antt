@@ -1,5 +1,5 @@
--- Whatever has an encoding can be written: its numbers fit and its keys are UTF-8 in any encoding, and what is written is
--- no longer than the fields whose length a Varint holds. Assumes nothing.
+-- Whatever has an encoding can be written: its numbers fit and its keys are UTF-8 in any encoding, and what is written
+-- is no longer than the fields whose length a Varint holds. Assumes nothing.
 use Prim.Native.Nat.{ℕ}
 use mathlib.Core.List.{List}
 use native.Mathlib.Omega.{arith}

@@ -1,5 +1,5 @@
-// What is printed of a case: one line where it is refused; otherwise its fields, its records with their headers, the bytes
-// that are written for it, and whether it is canonical.
+// What is printed of a case: one line where it is refused; otherwise its fields, its records with their headers, the
+// bytes that are written for it, and whether it is canonical.
 use crate::text::print;
 use crate::text::print_bytes;
 use crate::text::print_hexadecimal;

@@ -1,4 +1,5 @@
--- What spans inside a source show is as long as they say, and what is written is added up part by part. Assumes nothing.
+-- What spans inside a source show is as long as they say, and what is written is added up part by part. Assumes
+-- nothing.
 use Prim.Native.Nat.{ℕ, _+_}
 use mathlib.Core.Path.{_≡_, refl, ap, _∙_}
 use mathlib.Core.Option.{none, some}

@@ -298,8 +298,8 @@ fn put_byte(b: u8, output: &mut [u8], at: usize) -> usize
     at + 1
 }
 
-// A number of more than one byte, of either width. Its bytes are put one by one: taken together they would be waited for,
-// since they have only just been stored.
+// A number of more than one byte, of either width. Its bytes are put one by one: taken together they would be waited
+// for, since they have only just been stored.
 fn put_long(n: Varlong, output: &mut [u8], from: usize) -> usize
     requires { ⌜ 128 ≤ zigzag (n .0) ⌝ }
     ensures { λ r. ⌜ pen r (now (output .exit)) ≡ emit (shortest (n .0)) (pen from (now (output .entry))) ⌝ }

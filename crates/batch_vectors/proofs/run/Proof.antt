@@ -1,5 +1,5 @@
--- `batch_vectors::run` is safe and ends. Each line ends within the text, and the space keeps its length. The measure is what
--- is left of the text. Assumes nothing.
+-- `batch_vectors::run` is safe and ends. Each line ends within the text, and the space keeps its length. The measure is
+-- what is left of the text. Assumes nothing.
 use Prim.Native.Nat.{_≤_, _-_}
 use mathlib.Core.Path.{_≡_}
 use borrow.Author.Needs.{needs}

@@ -1,4 +1,5 @@
--- `list::list` meets its contract: it is safe, and it ends since each turn but the last goes further on. Assumes nothing.
+-- `list::list` meets its contract: it is safe, and it ends since each turn but the last goes further on. Assumes
+-- nothing.
 use borrow.Author.Needs.{needs}
 use Prim.Native.Nat.{_-_}
 use mathlib.Core.Path.{_≡_}

@@ -1,5 +1,5 @@
--- `pinning::print` is safe and ends. The bytes that are printed end within the output, by what writing promises. Assumes
--- nothing.
+-- `pinning::print` is safe and ends. The bytes that are printed end within the output, by what writing promises.
+-- Assumes nothing.
 use native.Mathlib.Omega.{arith}
 use borrow.Author.Needs.{needs}
 use lib.ListN.{length-take}

@@ -1,5 +1,5 @@
--- `pinning::rows` is safe and ends, and its table has 192 numbers. The place stays within the table. The measure is what
--- is left of it. Assumes nothing.
+-- `pinning::rows` is safe and ends, and its table has 192 numbers. The place stays within the table. The measure is
+-- what is left of it. Assumes nothing.
 use Prim.Native.Nat.{_≤_, _-_}
 use mathlib.Core.Path.{_≡_}
 use native.Mathlib.Omega.{arith}

@@ -1,4 +1,5 @@
--- `primitives::decode_zigzag_32` meets its contract: the masked half is the number in two's complement. Assumes nothing.
+-- `primitives::decode_zigzag_32` meets its contract: the masked half is the number in two's complement. Assumes
+-- nothing.
 use borrow.Author.Needs.{needs}
 use Prim.Native.Nat.{_/_, _^_, _<_}
 use mathlib.Core.Path.{refl, _∙_}

@@ -1,4 +1,5 @@
--- `primitives::decode_zigzag_64` meets its contract: the masked half is the number in two's complement. Assumes nothing.
+-- `primitives::decode_zigzag_64` meets its contract: the masked half is the number in two's complement. Assumes
+-- nothing.
 use borrow.Author.Needs.{needs}
 use mathlib.Core.Path.{refl, _∙_}
 use native.Mathlib.Omega.{arith}

@@ -1,5 +1,5 @@
--- `replay::replay` is safe and ends. Each case ends within the input, which the code tests. The measure is what is left of
--- it. Assumes nothing.
+-- `replay::replay` is safe and ends. Each case ends within the input, which the code tests. The measure is what is left
+-- of it. Assumes nothing.
 use Prim.Native.Nat.{_≤_, _-_, _+_}
 use mathlib.Core.Path.{_≡_, sym, ap, _∙_}
 use native.Mathlib.Omega.{arith}

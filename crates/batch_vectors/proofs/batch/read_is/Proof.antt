@@ -1,5 +1,5 @@
--- `batch_vectors::batch::read_is` is safe and ends. The parts that are lent end within the tables, which the code tests.
--- Assumes nothing.
+-- `batch_vectors::batch::read_is` is safe and ends. The parts that are lent end within the tables, which the code
+-- tests. Assumes nothing.
 use native.Mathlib.Omega.{arith}
 use borrow.Author.Needs.{needs}
 use lib.ListN.{length-take}

@@ -1,5 +1,5 @@
--- `batch_vectors::batch::spells` is safe and ends. The place stays within the answer. The measure is what is left of it.
--- Assumes nothing.
+-- `batch_vectors::batch::spells` is safe and ends. The place stays within the answer. The measure is what is left of
+-- it. Assumes nothing.
 use Prim.Native.Nat.{_≤_, _-_}
 use borrow.Author.Needs.{needs}
 use Rattle.batch_vectors.proofs.batch.spells.Statement.{statement}

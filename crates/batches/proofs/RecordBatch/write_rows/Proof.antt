@@ -1,4 +1,5 @@
--- `batches::RecordBatch::write_rows` meets its contract: what was written of the records tells the length and the count. Assumes nothing.
+-- `batches::RecordBatch::write_rows` meets its contract: what was written of the records tells the length and the
+-- count. Assumes nothing.
 use Prim.Native.Nat.{_+_, _^_, _≤_, _<_}
 use native.Mathlib.Omega.{arith}
 use lib.ListN.{length}

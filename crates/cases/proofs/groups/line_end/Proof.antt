@@ -1,5 +1,5 @@
--- `cases::groups::line_end` meets its contract. The place starts at `from` and goes on. The measure is what is left of the
--- text. Assumes nothing.
+-- `cases::groups::line_end` meets its contract. The place starts at `from` and goes on. The measure is what is left of
+-- the text. Assumes nothing.
 use Prim.Native.Nat.{_≤_, _-_}
 use borrow.Author.Needs.{needs}
 use lib.ListN.{length}

@@ -1,4 +1,5 @@
--- `layout::BatchFields::fixed_before` meets its contract: another checksum changes four bytes and nothing else. Assumes nothing.
+-- `layout::BatchFields::fixed_before` meets its contract: another checksum changes four bytes and nothing else. Assumes
+-- nothing.
 use borrow.Author.Needs.{needs}
 use Rattle.layout.proofs.Putting.{before-put}
 use Rattle.layout.proofs.BatchFields.fixed_before.Statement.{statement}

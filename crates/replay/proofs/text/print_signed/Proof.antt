@@ -1,5 +1,5 @@
--- `replay::text::print_signed` is safe and ends. By the sign of the number: it, or -1 less it, is not negative and fits.
--- Assumes nothing.
+-- `replay::text::print_signed` is safe and ends. By the sign of the number: it, or -1 less it, is not negative and
+-- fits. Assumes nothing.
 use native.Mathlib.Omega.{arith}
 use mir.Syntax.{w64}
 use Rattle.numbers.proofs.Signs.{nonnegative, negative, negative-fits}

@@ -1,5 +1,5 @@
--- `vectors::agreement::run_summed` is safe and ends. The part that is lent, to be filled and to be read, ends within the
--- space, which the code tests. Assumes nothing.
+-- `vectors::agreement::run_summed` is safe and ends. The part that is lent, to be filled and to be read, ends within
+-- the space, which the code tests. Assumes nothing.
 use native.Mathlib.Omega.{arith}
 use borrow.Author.Needs.{needs}
 use lib.ListN.{length-take}
