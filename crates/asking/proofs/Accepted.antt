@@ -13,8 +13,8 @@ use Rattle.primitives.proofs.Picks.{picked}
 use Rattle.primitives.proofs.Steps.{ok-not-no, and-then-ok, pick-ok, times-count}
 use Rattle.utf8.specs.Judgement.{isUtf8}
 use Rattle.records.specs.Judgement.{HeaderSpans, RecordSpans}
-use Rattle.records.specs.Rows.{Tables}
-use Rattle.asking.specs.Asked.{cell, askedBytes, headerAsked, askedCount, nextRow, RowPlace, rowPlace, recordAsked, recordsAsked}
+use Rattle.records.specs.Rows.{cell, Tables}
+use Rattle.asking.specs.Asked.{askedBytes, headerAsked, askedCount, nextRow, RowPlace, rowPlace, recordAsked, recordsAsked}
 
 pub bytes-inside : (size : ℕ) (a n : ℤ) (p : ℕ) {x : Span} {q : ℕ} → askedBytes size a n p ≡ ok x q → x .start + x .len ≤ size
 bytes-inside size (pos a) (pos n) p e =

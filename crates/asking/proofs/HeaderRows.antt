@@ -18,9 +18,10 @@ use Rattle.primitives.specs.Step.{Step, ok, no, mapStep}
 use Rattle.primitives.specs.Reading.{Span}
 use Rattle.utf8.specs.Judgement.{isUtf8}
 use Rattle.records.specs.Judgement.{HeaderSpans}
+use Rattle.records.specs.Rows.{cell}
 use Rattle.asking.specs.declared.Asked.{Asked}
 use Rattle.asking.specs.declared.Shown.{Shown}
-use Rattle.asking.specs.Asked.{cell, askedBytes, askedNullable, headerAsked}
+use Rattle.asking.specs.Asked.{askedBytes, askedNullable, headerAsked}
 use Rattle.asking.specs.Answers.{headerOf}
 use Rattle.asking.specs.Numbers.{viewAsked}
 use Rattle.asking.proofs.Accepted.{bytes-inside}

@@ -29,11 +29,11 @@ bytes-asked : (size : ℕ) (x : Span) (p : ℕ) → x .start + x .len ≤ size �
 bytes-asked size x p h = rw (le-leb (x .start + x .len) size h)
 
 -- as they stand in a row
-abbrev startOf : Option Span → ℤ
+abbrev pub startOf : Option Span → ℤ
 startOf none = pos 0
 startOf (some x) = pos (x .start)
 
-abbrev lengthOf : Option Span → ℤ
+abbrev pub lengthOf : Option Span → ℤ
 lengthOf none = negsuc 0
 lengthOf (some x) = pos (x .len)
 
@@ -76,12 +76,12 @@ module _ (t : List ℤ) (s : List ℕ) where
 count-asked : (rows first n p : ℕ) → first + n ≤ rows → askedCount rows first (pos first) (pos n) p ≡ ok n p
 count-asked rows first n p h = rw (eq-eqb first first refl, le-leb (first + n) rows h)
 
-abbrev eightOf : ℕ → RecordSpans → List ℤ
+abbrev pub eightOf : ℕ → RecordSpans → List ℤ
 eightOf first r =
     r .timestampDelta ∷ r .offsetDelta ∷ startOf (r .key) ∷ lengthOf (r .key) ∷ startOf (r .value) ∷ lengthOf (r .value)
     ∷ pos first ∷ pos (length (r .headers)) ∷ []
 
-record-row : (first : ℕ) (r : RecordSpans) → recordRow first r ≡ eightOf first r
+pub record-row : (first : ℕ) (r : RecordSpans) → recordRow first r ≡ eightOf first r
 record-row first r = rw (span-row (r .key), span-row (r .value))
 
 -- what the row itself says of a record
@@ -109,6 +109,7 @@ module _ (t : Tables) (s : List ℕ) where
         number 5 (omega arith),
         number 6 (omega arith),
         number 7 (omega arith),
+        test-in 64 (r .timestampDelta) (i .timestamp),
         test-in 32 (r .offsetDelta) (i .offset),
         nullable-asked s (r .key) row (i .key),
         nullable-asked s (r .value) row (i .value),

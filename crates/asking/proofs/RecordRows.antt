@@ -1,27 +1,30 @@
 -- A record's row, as the machine reads it. Assumes nothing.
-use Prim.Native.Nat.{ℕ, zero, suc, _+_, _/_, _^_}
+use Prim.Native.Nat.{ℕ, zero, suc, _+_, _*_, _/_, _^_, _<_}
 use mathlib.Core.Path.{_≡_, refl, sym, ap, _∙_, subst}
 use mathlib.Core.Bool.{Bool, true, false}
 use mathlib.Core.Option.{none, some}
 use mathlib.Core.List.{List}
 use native.Mathlib.Omega.{arith}
+use native.Mathlib.Nat.{add-zero}
 use borrow.Author.Tests.{ltb-true, ltb-false, lt-ltb, le-ltb}
 use lib.Dec.{T, eqb, leb}
 use lib.IntN.{ℤ, pos, negsuc}
-use lib.Signed.{ltZ}
-use lib.ListN.{length}
+use lib.Signed.{mag, ltZ}
+use lib.ListN.{length, getD}
 use mir.Syntax.{w32, w64}
 use mir.Val.{SFits, toZ, ofZ}
 use mir.ValLaws.{toZ-ofZ}
 use Rattle.numbers.specs.Format.{inBits}
+use Rattle.numbers.proofs.InBits.{test-in, in-bits}
+use Rattle.numbers.proofs.Picks.{second-fails}
 use Rattle.numbers.specs.Pick.{pick}
 use Rattle.primitives.specs.Step.{Step, ok, no, mapStep}
 use Rattle.primitives.specs.Reading.{Span}
-use Rattle.records.specs.Rows.{Tables}
+use Rattle.records.specs.Rows.{cell, Tables}
 use Rattle.asking.specs.declared.Asked.{Asked}
 use Rattle.asking.specs.declared.Shown.{Shown}
 use Rattle.asking.specs.declared.CountAsked.{CountAsked}
-use Rattle.asking.specs.Asked.{cell, askedNullable, askedCount, headAsked}
+use Rattle.asking.specs.Asked.{askedNullable, askedCount, deltasFit, headAsked}
 use Rattle.asking.specs.Answers.{spanOf, headOf}
 use Rattle.asking.specs.Numbers.{viewAsked, viewCount}
 
@@ -96,6 +99,12 @@ count-placed rows first (negsuc k) n p = refl
 
 -- ---- the row
 
+-- a row's deltas fit where its timestampDelta is one of the machine's numbers
+pub deltas-fit : (t : List ℤ) (row : ℕ) (offset : ℤ) → mag (getD t (row * 8) (pos 0)) < 2 ^ 63 → inBits 32 offset ≡ true
+    → deltasFit (cell 8 t row 0) offset ≡ true
+deltas-fit t row offset h small =
+    rw (add-zero (row * 8), test-in 64 (getD t (row * 8) (pos 0)) (in-bits w64 (getD t (row * 8) (pos 0)) h)) small
+
 module _ (t : Tables) (s : List ℕ) (row first : ℕ) where
   -- a number of the row, and as it is passed on
   abbrev number : ℕ → ℤ
@@ -109,7 +118,7 @@ module _ (t : Tables) (s : List ℕ) (row first : ℕ) where
 
   wide : inBits 32 (number 1) ≡ false → no 21 ≡ headAsked t s row first
   unfolding headAsked
-  wide e = rw e refl
+  wide e = rw (e, second-fails (inBits 64 (number 0))) refl
 
   pub offset-below : Fits 1 → ltZ (passed 1) (negsuc 2147483647) ≡ true → no 21 ≡ headAsked t s row first
   offset-below f e = wide (below-32 (number 1) f e)
@@ -124,7 +133,7 @@ module _ (t : Tables) (s : List ℕ) (row first : ℕ) where
       nullable-placed (length s) (number a) (number b) row
       ∙ ap (placed row) (sym (e ∙ (λ i. askedNullable (length s) (toZ-ofZ w64 (number a) f i) (toZ-ofZ w64 (number b) g i) 0)))
 
-  module _ (small : inBits 32 (number 1) ≡ true) (f2 : Fits 2) (f3 : Fits 3) (k : Asked)
+  module _ (small : deltasFit (number 0) (number 1) ≡ true) (f2 : Fits 2) (f3 : Fits 3) (k : Asked)
       (e : viewAsked 0 k ≡ askedNullable (length s) (passed 2) (passed 3) 0) where
     key-is : askedNullable (length s) (number 2) (number 3) row ≡ placed row (viewAsked 0 k)
     key-is = at-row 2 3 f2 f3 k e

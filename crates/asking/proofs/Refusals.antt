@@ -6,14 +6,13 @@ use native.Mathlib.Omega.{arith}
 use lib.Dec.{eqb, leb}
 use lib.IntN.{ℤ, pos, negsuc}
 use lib.ListN.{length}
-use Rattle.numbers.specs.Format.{inBits}
 use Rattle.primitives.specs.Step.{Step, ok, no, andThen, mapStep, times}
 use Rattle.primitives.specs.Reading.{bytesOf}
 use Rattle.primitives.proofs.Refusing.{RefusedBy, refused-by, and-then-refused, map-refused, pick-refused, times-refused}
 use Rattle.utf8.specs.Judgement.{isUtf8}
 use Rattle.records.specs.Judgement.{HeaderSpans, RecordSpans, Head, withHeaders}
-use Rattle.records.specs.Rows.{Tables}
-use Rattle.asking.specs.Asked.{cell, askedBytes, askedNullable, askedCount, headerAsked, headAsked, RowPlace, nextRow, recordAsked, recordsAsked, rowPlace}
+use Rattle.records.specs.Rows.{cell, Tables}
+use Rattle.asking.specs.Asked.{askedBytes, askedNullable, askedCount, headerAsked, deltasFit, headAsked, RowPlace, nextRow, recordAsked, recordsAsked, rowPlace}
 use Rattle.asking.specs.Statements.{RowsRefused}
 
 abbrev pub RowFault : ℕ → Type 0
@@ -58,7 +57,7 @@ module _ (t : Tables) (s : List ℕ) where
       let number : ℕ → ℤ = cell 8 (t .records) row in
       let rows : ℕ = length (t .headers) / 4 in
       let asked : (a n : ℤ) → RefusedBy RowFault (askedNullable (length s) a n row) = λ a n. asked-nullable-refused (length s) a n row in
-      pick-refused RowFault (inBits 32 (number 1)) _ (no 21)
+      pick-refused RowFault (deltasFit (number 0) (number 1)) _ (no 21)
       (and-then-refused RowFault (askedNullable (length s) (number 2) (number 3) row) _ (asked (number 2) (number 3)) (λ k _.
       and-then-refused RowFault (askedNullable (length s) (number 4) (number 5) row) _ (asked (number 4) (number 5)) (λ v _.
       map-refused RowFault _ (askedCount rows first (number 6) (number 7) row) (asked-count-refused rows first (number 6) (number 7) row))))

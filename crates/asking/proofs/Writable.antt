@@ -9,6 +9,7 @@ use lib.IntN.{ℤ, pos}
 use lib.ListN.{length, getD, length-append}
 use Rattle.numbers.specs.Format.{InBits, inBits}
 use Rattle.numbers.proofs.InBits.{tested-in}
+use Rattle.numbers.proofs.Picks.{both-hold}
 use Rattle.primitives.specs.Step.{ok, times}
 use Rattle.primitives.specs.Reading.{bytesOf}
 use Rattle.primitives.proofs.Steps.{and-then-ok, map-ok, pick-ok, times-each}
@@ -19,11 +20,11 @@ use Rattle.utf8.proofs.Sequences.{utf8-sound}
 use Rattle.records.specs.Format.{Header, Record}
 use Rattle.records.specs.Written.{writtenFields, writtenRecord, writtenRecords}
 use Rattle.records.specs.Judgement.{HeaderSpans, RecordSpans, Head, withHeaders}
-use Rattle.records.specs.Rows.{Tables}
+use Rattle.records.specs.Rows.{cell, Tables}
 use Rattle.records.specs.Placed.{shownHeader, shownRecord, shownRecords}
 use Rattle.records.specs.Statements.{Each, Writable}
 use Rattle.records.proofs.Encodes.{written-length}
-use Rattle.asking.specs.Asked.{cell, askedBytes, askedNullable, askedCount, headerAsked, headAsked, RowPlace, recordAsked, recordsAsked, rowPlace}
+use Rattle.asking.specs.Asked.{askedBytes, askedNullable, askedCount, headerAsked, deltasFit, headAsked, RowPlace, recordAsked, recordsAsked, rowPlace}
 use Rattle.asking.proofs.Accepted.{next-is}
 
 -- ---- what can be written, but for its size
@@ -63,17 +64,18 @@ module _ (t : List ℤ) (s : List ℕ) where
 
 -- ---- records
 
-module _ (t : Tables) (s : List ℕ) (numbers : (i : ℕ) → InBits 64 (getD (t .records) i (pos 0))) where
+module _ (t : Tables) (s : List ℕ) where
   head-asked : (row first : ℕ) (h : Head) (q : ℕ) → headAsked t s row first ≡ ok h q
       → InBits 64 (h .deltas .timestamp) × InBits 32 (h .deltas .offset)
   unfolding headAsked
   head-asked row first h q e =
-      let (i, e′) = picked (inBits 32 (cell 8 (t .records) row 1)) _ 21 e in
+      let (i, e′) = picked (deltasFit (cell 8 (t .records) row 0) (cell 8 (t .records) row 1)) _ 21 e in
+      let (wide, narrow) = both-hold (inBits 64 (cell 8 (t .records) row 0)) (inBits 32 (cell 8 (t .records) row 1)) i in
       let (_, _, _, a) = and-then-ok (askedNullable (length s) (cell 8 (t .records) row 2) (cell 8 (t .records) row 3) row) _ e′ in
       let (_, _, _, b) = and-then-ok (askedNullable (length s) (cell 8 (t .records) row 4) (cell 8 (t .records) row 5) row) _ a in
       let (n, _, w) = map-ok _ (askedCount (length (t .headers) / 4) first (cell 8 (t .records) row 6) (cell 8 (t .records) row 7) row) b in
       subst (λ (h : Head). InBits 64 (h .deltas .timestamp) × InBits 32 (h .deltas .offset)) w
-      (numbers (row * 8 + 0), tested-in 32 (cell 8 (t .records) row 1) i)
+      (tested-in 64 (cell 8 (t .records) row 0) wide, tested-in 32 (cell 8 (t .records) row 1) narrow)
 
   record-asked : (p : RowPlace) (r : RecordSpans) (q : RowPlace) → recordAsked t s p ≡ ok r q → Fitting (shownRecord s r)
   unfolding recordAsked

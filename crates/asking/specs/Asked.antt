@@ -1,22 +1,19 @@
 -- What rows ask to be written: document 01, Tables, and Writer's numbers, 21 and 22. Rows are read in their order, each
 -- record before its headers, and the first that is wrong gives the number.
-use Prim.Native.Nat.{ℕ, zero, suc, _+_, _*_, _/_}
+use Prim.Native.Nat.{ℕ, zero, suc, _+_, _/_}
+use mathlib.Core.Bool.{Bool, false}
 use mathlib.Core.Option.{Option, none, some}
 use mathlib.Core.List.{List}
 use lib.Dec.{eqb, leb, ltb}
 use lib.IntN.{ℤ, pos, negsuc}
-use lib.ListN.{length, getD}
+use lib.ListN.{length}
 use Rattle.numbers.specs.Format.{inBits}
 use Rattle.numbers.specs.Pick.{pick}
 use Rattle.primitives.specs.Step.{Step, ok, no, andThen, mapStep, times}
 use Rattle.primitives.specs.Reading.{Span, bytesOf}
 use Rattle.utf8.specs.Judgement.{isUtf8}
 use Rattle.records.specs.Judgement.{HeaderSpans, RecordSpans, Head, withHeaders}
-use Rattle.records.specs.Rows.{Tables}
-
--- number k of a row of a table whose rows have w
-abbrev pub cell : ℕ → List ℤ → ℕ → ℕ → ℤ
-cell w t row k = getD t (row * w + k) (pos 0)
+use Rattle.records.specs.Rows.{cell, Tables}
 
 -- ---- two numbers of a row: start and length, in a source of so many bytes
 
@@ -55,11 +52,15 @@ askedCount rows first (pos named) (pos n) p =
 askedCount rows first (pos named) (negsuc k) p = no 21
 askedCount rows first (negsuc k) n p = no 21
 
+-- the deltas: as every number of a table, timestampDelta is one of 64 bits; offsetDelta has to be one of 32
+abbrev pub deltasFit : (timestamp offset : ℤ) → Bool
+deltasFit timestamp offset = pick (inBits 64 timestamp) (inBits 32 offset) false
+
 -- what the row itself says
 unfoldable pub headAsked : Tables → List ℕ → ℕ → ℕ → Step ℕ Head
 headAsked t s row first =
     let number : ℕ → ℤ = cell 8 (t .records) row in
-    pick (inBits 32 (number 1))
+    pick (deltasFit (number 0) (number 1))
     (andThen (askedNullable (length s) (number 2) (number 3) row) (λ k _.
     andThen (askedNullable (length s) (number 4) (number 5) row) (λ v _.
     mapStep (λ n. record { deltas = record { timestamp = number 0; offset = number 1 }; key = k; value = v; count = n })

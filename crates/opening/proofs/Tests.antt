@@ -53,6 +53,10 @@ is-true n (negsuc k) e = cc
 pub is-false : (n : ℕ) (z : ℤ) → is n z ≡ false → z ≡ pos n → ⊥
 is-false n z e f = eqb-false n n (sym (ap (is n) f) ∙ e) refl
 
+pub is-not : (n : ℕ) (z : ℤ) → (z ≡ pos n → ⊥) → is n z ≡ false
+is-not n (pos m) f = ne-eqb m n (λ e. f (ap pos e))
+is-not n (negsuc k) f = refl
+
 module _ (s : List ℕ) (at : ℕ) where
   abbrev SomeTotal : Type 0
   SomeTotal = (x : Judged ℕ) × Totals s at x

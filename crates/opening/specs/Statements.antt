@@ -4,8 +4,13 @@ use Prim.Native.Nat.{ℕ, _+_, _≤_}
 use mathlib.Core.Path.{_≡_}
 use mathlib.Core.List.{List}
 use lib.ListN.{length}
+use Rattle.numbers.specs.Bytes.{Bytes}
+use Rattle.numbers.specs.Exactly.{Exactly}
+use Rattle.primitives.specs.Step.{no}
+use Rattle.primitives.specs.Faults.{Wrong}
 use Rattle.layout.specs.Table.{fixedPart}
-use Rattle.opening.specs.Judgement.{accepted, Control, judgeWith}
+use Rattle.opening.specs.Judgement.{accepted, openedAt, Control, judgeWith, bareMarkerAt}
+use Rattle.opening.specs.Faults.{FixedWrong, BareMarkerWrong}
 use Rattle.opening.specs.Opened.{KnownAt, openAt, judgedFrom}
 
 -- The judgement is what is known before the marker or the records, and then what these say.
@@ -20,3 +25,18 @@ pub record Inside (s : List ℕ) (at : ℕ) (o : KnownAt) : Type 0 where
 
 abbrev pub OpenedInside : Type 0
 OpenedInside = (s : List ℕ) (at : ℕ) (o : KnownAt) → openAt s at ≡ accepted o → Inside s at o
+
+-- ---- first faults
+
+-- What is met before the marker or the records is refused by a number from 8 on exactly where that is the fixed part's
+-- first fault.
+abbrev pub OpenedFaults : Type 0
+OpenedFaults = (s : List ℕ) (at n : ℕ) → 8 ≤ n → Exactly (openedAt s at ≡ no n) (FixedWrong s at n)
+
+-- a way of reading control batches that refuses by the first fault, and wherever there is one
+abbrev pub FaultsOf : Control → Wrong → Type 0
+FaultsOf way W = (s : List ℕ) (p n : ℕ) → Bytes s → p ≤ length s → Exactly (way s p ≡ no n) (W s p n)
+
+-- The bare marker is read so.
+abbrev pub BareMarkerFaults : Type 0
+BareMarkerFaults = FaultsOf bareMarkerAt BareMarkerWrong

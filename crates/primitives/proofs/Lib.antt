@@ -1,9 +1,11 @@
 pub mod Codes
+pub mod FieldFaults
 pub mod Fields
 pub mod Integers
 pub mod Lengths
 pub mod Mask
 pub mod Moves
+pub mod NumberFaults
 pub mod Numbers
 pub mod Picks
 pub mod Places

@@ -2,6 +2,7 @@
 use Prim.Native.Nat.{ℕ}
 use mathlib.Core.Path.{_≡_, refl, sym}
 use mathlib.Core.Bool.{Bool, true, false}
+use mathlib.Core.Logic.{_⊎_, inl, inr}
 use Rattle.numbers.specs.Pick.{pick}
 use Rattle.primitives.specs.Step.{Step, ok, no, andThen}
 use Rattle.primitives.proofs.Steps.{ok-not-no}
@@ -16,9 +17,15 @@ pub passed-over : {P A : Type 0} (t : Bool) (x : Step P A) (n : ℕ) {a : A} {p 
 passed-over true x n e = ok-not-no (sym e)
 passed-over false x n e = (refl, e)
 
-pub pick-no : {P A : Type 0} (t : Bool) (a : A) (p : P) (m : ℕ) {n : ℕ} → pick t (ok a p) (no m) ≡ no n → t ≡ false
+pub pick-no : {P A : Type 0} (t : Bool) (a : A) (p : P) (m : ℕ) {n : ℕ} → pick t (ok a p) (no m) ≡ no n → (t ≡ false) × (m ≡ n)
 pick-no true a p m e = ok-not-no e
-pick-no false a p m e = refl
+pick-no false a p m e = (refl, cc)
+
+-- a refusal is that of what is picked, or of the test
+pub pick-either : {P A : Type 0} (t : Bool) (x : Step P A) (m : ℕ) {n : ℕ} → pick t x (no m) ≡ no n
+    → ((t ≡ true) × (x ≡ no n)) ⊎ ((t ≡ false) × (m ≡ n))
+pick-either true x m e = inl (refl, e)
+pick-either false x m e = inr (refl, cc)
 
 -- ---- what follows
 

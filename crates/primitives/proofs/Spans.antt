@@ -12,14 +12,41 @@ use lib.Dec.{leb}
 use lib.IntN.{ℤ, pos, negsuc}
 use lib.ListN.{length, take, drop, length-take, length-drop, take-append-drop}
 use lib.Seq.{drop-drop}
+use Rattle.numbers.specs.Bytes.{Bytes}
 use Rattle.numbers.specs.Format.{Varies, Nullable}
 use Rattle.primitives.specs.Step.{ok, andThen}
 use Rattle.primitives.specs.Stands.{Stands, Encoding}
 use Rattle.primitives.specs.Reading.{varintAt, lengthOf, lengthAt, Span, spanOf, spanAt, shown}
+use Rattle.primitives.specs.Faults.{CountBytes}
 use Rattle.primitives.specs.Statements.{endingAt, SpanSound, SpanComplete}
 use Rattle.primitives.proofs.Places.{shows, joined, first, second}
 use Rattle.primitives.proofs.Steps.{ok-not-no, and-then-ok, pick-ok, and-then-and-then}
 use Rattle.primitives.proofs.Varints.{varint-sound, varint-complete}
+
+-- ---- a length that is not null
+
+length-of : (nullable : Bool) {s : List ℕ} {p m n q : ℕ} (z : ℤ) → Encoding (Varies 32 false) s p m z → lengthOf nullable z m ≡ ok (some n) q
+    → Encoding CountBytes s p q n
+length-of nullable {m = m} {n} {q} (pos k) t e =
+    let v : k ≡ n = cc in
+    let w : m ≡ q = cc in
+    rw (← v, ← w) (record { bytes = t .bytes; stands = t .stands; encodes = t .encodes })
+length-of true (negsuc zero) t e = let z : _≡_ {A = ℕ} 0 1 = cc in absurd (omega arith)
+length-of false (negsuc zero) t e = ok-not-no (sym e)
+length-of nullable (negsuc (suc k)) t e = ok-not-no (sym e)
+
+pub length-found : (nullable : Bool) (s : List ℕ) → Bytes s → (p : ℕ) {n q : ℕ} → lengthAt nullable s p ≡ ok (some n) q → Encoding CountBytes s p q n
+unfolding lengthAt
+length-found nullable s b p e =
+    let (z, m, i, j) = and-then-ok (varintAt 32 s p) (lengthOf nullable) e in
+    length-of nullable z (varint-sound 32 s p z m (omega arith) b i) j
+
+pub length-reads : (nullable : Bool) {strict : Bool} {s : List ℕ} {p q : ℕ} {bs : List ℕ} {n : ℕ} → Stands s p q bs → Varies 32 strict bs (pos n)
+    → lengthAt nullable s p ≡ ok (some n) q
+unfolding lengthAt
+length-reads nullable {strict} {s} {p} {q} {bs} {n} x g = rw (varint-complete 32 strict s p q bs (pos n) (omega arith) x g)
+
+-- ---- bytes that follow it
 
 module _ (s : List ℕ) (p n : ℕ) (h : p + n ≤ length s) where
   pub taken-length : length (take n (drop p s)) ≡ n

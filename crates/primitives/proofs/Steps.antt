@@ -46,6 +46,11 @@ pub and-then-and-then : {P A B C : Type 0} (x : Step P A) (f : A → P → Step 
 and-then-and-then (ok a p) f g = refl
 and-then-and-then (no n) f g = refl
 
+pub map-and-then : {P A B C : Type 0} (h : A → B) (x : Step P A) (g : B → P → Step P C)
+    → andThen (mapStep h x) g ≡ andThen x (λ a p. g (h a) p)
+map-and-then h (ok a p) g = refl
+map-and-then h (no n) g = refl
+
 pub map-map : {P A B C : Type 0} (g : B → C) (f : A → B) (x : Step P A) → mapStep g (mapStep f x) ≡ mapStep (λ a. g (f a)) x
 map-map g f (ok a p) = refl
 map-map g f (no n) = refl

@@ -23,7 +23,7 @@ module _ (n : ℕ) (s : List ℕ) (p : ℕ) where
 
   pub unsigned-past : {m : ℕ} → unsignedAt n s p ≡ no m → length s < p + n
   unfolding unsignedAt
-  unsigned-past e = leb-false (p + n) (length s) (pick-no (leb (p + n) (length s)) (big n s p) (p + n) 8 e)
+  unsigned-past e = leb-false (p + n) (length s) (pick-no (leb (p + n) (length s)) (big n s p) (p + n) 8 e .0)
 
   pub integer-value : {z : ℤ} {q : ℕ} → integerAt n s p ≡ ok z q → (signedBy (2 ^ (8 * n - 1)) (big n s p) ≡ z) × (q ≡ p + n) × (p + n ≤ length s)
   unfolding integerAt

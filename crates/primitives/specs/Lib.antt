@@ -1,5 +1,6 @@
 pub mod Step
 pub mod Stands
+pub mod Faults
 pub mod Reading
 pub mod Shifted
 pub mod Answers

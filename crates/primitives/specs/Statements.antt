@@ -1,6 +1,6 @@
 -- The laws of the primitive layer, each in words and then as a statement. What proves each stands in proofs/ under the
 -- statement's name in small letters: `zigzag-back : ZigzagBack`.
-use Prim.Native.Nat.{ℕ, _-_, _<_}
+use Prim.Native.Nat.{ℕ, _-_, _<_, _≤_}
 use mathlib.Core.Path.{_≡_}
 use mathlib.Core.Bool.{Bool, false}
 use mathlib.Core.Option.{Option, none, some}
@@ -8,10 +8,12 @@ use mathlib.Core.List.{List, [], _++_}
 use lib.IntN.{ℤ}
 use lib.ListN.{length}
 use Rattle.numbers.specs.Bytes.{Bytes}
+use Rattle.numbers.specs.Exactly.{Exactly}
 use Rattle.numbers.specs.Format.{Unsigned, Integer, zigzag, Varies, Nullable}
-use Rattle.primitives.specs.Step.{ok}
+use Rattle.primitives.specs.Step.{ok, no}
 use Rattle.primitives.specs.Stands.{Stands, Encoding}
-use Rattle.primitives.specs.Reading.{unsignedAt, integerAt, unzigzag, varintAt, Span, spanAt, shown}
+use Rattle.primitives.specs.Reading.{unsignedAt, integerAt, unzigzag, varintAt, lengthAt, Span, spanAt, shown}
+use Rattle.primitives.specs.Faults.{IntegerWrong, NumberWrong, LengthWrong, BytesWrong}
 use Rattle.primitives.specs.Shifted.{movedNullable, same, Shifted}
 
 -- ---- integers, over the number of bytes
@@ -94,3 +96,23 @@ VarintShifted = (w : ℕ) → Shifted same (varintAt w)
 
 abbrev pub SpanShifted : Type 0
 SpanShifted = (nullable : Bool) → Shifted movedNullable (spanAt nullable)
+
+-- ---- first faults
+
+-- What is refused is refused by the number of its first fault, and wherever there is one: of an integer of k bytes, a
+-- number of w bits, a length, and bytes that follow their length.
+abbrev pub IntegerFaults : Type 0
+IntegerFaults = (k : ℕ) (s : List ℕ) (p n : ℕ) → Exactly (integerAt k s p ≡ no n) (IntegerWrong k s p n)
+
+abbrev pub NumberFaults : Type 0
+NumberFaults =
+    (w : ℕ) (s : List ℕ) (p n : ℕ) → 0 < w → Bytes s → p ≤ length s → Exactly (varintAt w s p ≡ no n) (NumberWrong w s p n)
+
+abbrev pub LengthFaults : Type 0
+LengthFaults =
+    (nullable : Bool) (s : List ℕ) (p n : ℕ) → Bytes s → p ≤ length s
+    → Exactly (lengthAt nullable s p ≡ no n) (LengthWrong nullable s p n)
+
+abbrev pub BytesFaults : Type 0
+BytesFaults =
+    (nullable : Bool) (s : List ℕ) (p n : ℕ) → Bytes s → p ≤ length s → Exactly (spanAt nullable s p ≡ no n) (BytesWrong nullable s p n)

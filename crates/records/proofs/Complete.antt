@@ -13,12 +13,12 @@ use lib.ListN.{length}
 use Rattle.numbers.specs.Format.{Varies, Sized, Nullable}
 use Rattle.primitives.specs.Step.{Step, ok, times}
 use Rattle.primitives.specs.Stands.{Stands}
-use Rattle.primitives.specs.Reading.{lengthAt, spanAt}
+use Rattle.primitives.specs.Reading.{spanAt}
 use Rattle.primitives.proofs.Steps.{ok-not-no}
 use Rattle.primitives.proofs.Places.{first, second}
 use Rattle.primitives.proofs.Integers.{integer-complete}
 use Rattle.primitives.proofs.Varints.{varint-complete}
-use Rattle.primitives.proofs.Spans.{span-complete}
+use Rattle.primitives.proofs.Spans.{length-reads, span-complete}
 use Rattle.primitives.proofs.Windows.{inside}
 use Rattle.utf8.specs.Grammar.{Octets}
 use Rattle.utf8.proofs.Sequences.{utf8-complete}
@@ -32,8 +32,8 @@ use Rattle.records.proofs.Shows.{bytes-shows, header-shows, record-show
 -- ---- counts and bytes
 
 pub count-reads : {strict : Bool} {s : List ℕ} {p q : ℕ} {bs : List ℕ} {n : ℕ} → Stands s p q bs → Varies 32 strict bs (pos n) → countAt s p ≡ ok n q
-unfolding countAt lengthAt
-count-reads {strict} {s} {p} {q} {bs} {n} x g = rw (varint-complete 32 strict s p q bs (pos n) (omega arith) x g)
+unfolding countAt
+count-reads x g = rw (length-reads false x g)
 
 -- bytes that end at q start just after their length
 span-reads : (nullable : Bool) {strict : Bool} {s : List ℕ} {p q : ℕ} {bs v : List ℕ} → Stands s p q bs → (g : Sized strict bs v)
@@ -46,7 +46,7 @@ nullable-reads : (strict : Bool) {s : List ℕ} {p q : ℕ} {bs : List ℕ} (v :
 nullable-reads strict {s} {p} {q} {bs} none x g = span-complete true strict s p q bs none x g .0
 nullable-reads strict (some v) x g = span-reads true x g
 
-bytes-reads : {strict : Bool} {s : List ℕ} {p q : ℕ} {bs v : List ℕ} → Stands s p q bs → (g : Sized strict bs v)
+pub bytes-reads : {strict : Bool} {s : List ℕ} {p q : ℕ} {bs v : List ℕ} → Stands s p q bs → (g : Sized strict bs v)
     → bytesAt s p ≡ ok (placedBytes v p g) q
 unfolding bytesAt
 bytes-reads x g = rw (span-reads false x g)
@@ -63,7 +63,7 @@ module _ {A R : Type 0} {G : List ℕ → A → Type 0} (place : (x : List ℕ) 
 
 -- ---- a header
 
-key-reads : {strict : Bool} {s : List ℕ} {p q : ℕ} {bs v : List ℕ} → Stands s p q bs → (g : Sized strict bs v) → Octets v
+pub key-reads : {strict : Bool} {s : List ℕ} {p q : ℕ} {bs v : List ℕ} → Stands s p q bs → (g : Sized strict bs v) → Octets v
     → keyAt s p ≡ ok (placedBytes v p g) q
 unfolding keyAt
 key-reads {v = v} x g o = rw (bytes-reads x g, bytes-shows x g, utf8-complete v o)

@@ -1,26 +1,27 @@
 -- Each step of the reading reads one part of the format, from the place where the part before it ends: so what was read
 -- is an encoding that stands there, and its spans are where the parts stand. Assumes nothing.
 use Prim.Native.Nat.{ℕ, zero, suc, _+_, _≤_}
-use mathlib.Core.Path.{_≡_, refl, sym, ap, _∙_, subst, subst₂}
+use mathlib.Core.Path.{_≡_, refl, ap, _∙_, subst, subst₂}
 use mathlib.Core.Bool.{true, false}
 use mathlib.Core.Option.{Option, none, some}
 use mathlib.Core.List.{List, [], _∷_, _++_}
 use native.Mathlib.Omega.{arith}
 use borrow.Author.Tests.{eqb-true}
 use lib.Dec.{eqb}
-use lib.IntN.{ℤ, pos, negsuc}
+use lib.IntN.{ℤ}
 use lib.ListN.{length, take}
 use Rattle.numbers.specs.Bytes.{Bytes}
 use Rattle.numbers.specs.Format.{Integer, Varies, Sized, Nullable}
 use Rattle.primitives.specs.Step.{Step, ok, times}
 use Rattle.primitives.specs.Stands.{Stands, Encoding}
-use Rattle.primitives.specs.Reading.{integerAt, varintAt, lengthOf, lengthAt, Span, spanAt, bytesOf, shown}
+use Rattle.primitives.specs.Reading.{integerAt, varintAt, lengthAt, Span, spanAt, bytesOf, shown}
+use Rattle.primitives.specs.Faults.{CountBytes}
 use Rattle.primitives.specs.Statements.{endingAt}
-use Rattle.primitives.proofs.Steps.{ok-not-no, and-then-ok, map-ok, pick-ok}
+use Rattle.primitives.proofs.Steps.{and-then-ok, map-ok, pick-ok}
 use Rattle.primitives.proofs.Places.{nothing, joined}
 use Rattle.primitives.proofs.Integers.{integer-sound}
 use Rattle.primitives.proofs.Varints.{varint-sound}
-use Rattle.primitives.proofs.Spans.{span-sound}
+use Rattle.primitives.proofs.Spans.{length-found, span-sound}
 use Rattle.primitives.proofs.Windows.{outside, window-bytes}
 use Rattle.utf8.specs.Grammar.{Octets}
 use Rattle.utf8.specs.Judgement.{isUtf8}
@@ -89,26 +90,15 @@ module _ {A R : Type 0} {G : List ℕ → A → Type 0} {place : (x : List ℕ) 
 
 -- ---- lengths, and bytes that follow their length
 
-length-read : {s : List ℕ} {p m n q : ℕ} (z : ℤ) → Encoding (Varies 32 false) s p m z → lengthOf false z m ≡ ok (some n) q
-    → Encoding (Varies 32 false) s p q (pos n)
-length-read {m = m} {n} {q} (pos k) t e =
-    let v : k ≡ n = cc in
-    let w : m ≡ q = cc in
-    rw (← v, ← w) t
-length-read (negsuc zero) t e = ok-not-no (sym e)
-length-read (negsuc (suc k)) t e = ok-not-no (sym e)
-
 ends-placed : {s : List ℕ} {p q : ℕ} {bs : List ℕ} (v : Option (List ℕ)) → Stands s p q bs → (g : Nullable true false bs v)
     → endingAt q v ≡ placedNullable false bs v p g
 ends-placed none x g = refl
 ends-placed (some v) x g = rw (starts x g)
 
 module _ (s : List ℕ) (b : Bytes s) where
-  count-found : (p n q : ℕ) → countAt s p ≡ ok n q → Encoding (Varies 32 false) s p q (pos n)
-  unfolding countAt lengthAt
-  count-found p n q e =
-      let (z, m, i, j) = and-then-ok (varintAt 32 s p) (lengthOf false) (present-ok (lengthAt false s p) e) in
-      length-read z (varint-sound 32 s p z m (omega arith) b i) j
+  pub count-found : (p n q : ℕ) → countAt s p ≡ ok n q → Encoding CountBytes s p q n
+  unfolding countAt
+  count-found p n q e = length-found false s b p (present-ok (lengthAt false s p) e)
 
   nullable-found : (p : ℕ) {x : Option Span} {q : ℕ} → spanAt true s p ≡ ok x q → Found (Nullable true false) (placedNullable false) s p x q
   nullable-found p {x} {q} e =
@@ -121,7 +111,7 @@ module _ (s : List ℕ) (b : Bytes s) where
         placed = w ∙ ends-placed (shown s x) (t .stands) (t .encodes);
       }
 
-  bytes-found : (p : ℕ) {x : Span} {q : ℕ} → bytesAt s p ≡ ok x q
+  pub bytes-found : (p : ℕ) {x : Span} {q : ℕ} → bytesAt s p ≡ ok x q
       → (t : Encoding (Sized false) s p q (bytesOf s x)) × (x ≡ placedBytes (bytesOf s x) p (t .encodes))
   unfolding bytesAt
   bytes-found p {x} {q} e =
@@ -133,7 +123,7 @@ module _ (s : List ℕ) (b : Bytes s) where
 abbrev FoundHeader : List ℕ → ℕ → HeaderSpans → ℕ → Type 0
 FoundHeader = Found (HeaderBytes false) (λ x h at g. placedHeader at g)
 
-key-read : (s : List ℕ) (p : ℕ) {x : Span} {q : ℕ} → keyAt s p ≡ ok x q → (bytesAt s p ≡ ok x q) × Octets (bytesOf s x)
+pub key-read : (s : List ℕ) (p : ℕ) {x : Span} {q : ℕ} → keyAt s p ≡ ok x q → (bytesAt s p ≡ ok x q) × Octets (bytesOf s x)
 unfolding keyAt
 key-read s p {x} e =
     let (y, m, i, j) = and-then-ok (bytesAt s p) _ e in
@@ -177,7 +167,7 @@ record FoundHead (s : List ℕ) (p : ℕ) (h : Head) (q : ℕ) : Type 0 where
   deltas : FoundDeltas s p (h .deltas) keyPlace
   key : Found (Nullable true false) (placedNullable false) s keyPlace (h .key) valuePlace
   value : Found (Nullable true false) (placedNullable false) s valuePlace (h .value) countPlace
-  count : Encoding (Varies 32 false) s countPlace q (pos (h .count))
+  count : Encoding CountBytes s countPlace q (h .count)
 
 with-headers : {s : List ℕ} {p m q : ℕ} {h : Head} {hs : List HeaderSpans} → FoundHead s p h m
     → FoundRun (HeaderBytes false) (λ x h at g. placedHeader at g) s (h .count) m hs q → FoundFields s p (withHeaders h hs) q
@@ -260,7 +250,7 @@ module _ (s : List ℕ) (b : Bytes s) where
         count = count-found s b r c q u;
       })
 
-  fields-found : (p : ℕ) {r : RecordSpans} {q : ℕ} → fieldsAt s p ≡ ok r q → FoundFields s p r q
+  pub fields-found : (p : ℕ) {r : RecordSpans} {q : ℕ} → fieldsAt s p ≡ ok r q → FoundFields s p r q
   unfolding fieldsAt
   fields-found p e =
       let (h, m, i, j) = and-then-ok (headAt s p) _ e in
@@ -273,7 +263,7 @@ module _ (s : List ℕ) (b : Bytes s) where
 abbrev FoundRecord : List ℕ → ℕ → RecordSpans → ℕ → Type 0
 FoundRecord = Found (RecordBytes false) (λ x r at g. placedRecord at g)
 
-in-window : {s : List ℕ} {p m n q : ℕ} {r : RecordSpans} → Encoding (Varies 32 false) s p m (pos n) → FoundFields (take (m + n) s) m r q
+in-window : {s : List ℕ} {p m n q : ℕ} {r : RecordSpans} → Encoding CountBytes s p m n → FoundFields (take (m + n) s) m r q
     → q ≡ m + n → FoundRecord s p r q
 in-window {m = m} {n} size f e =
     let l : length (f .bytes) ≡ n = omega (arith, f .stands .end) in

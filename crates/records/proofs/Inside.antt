@@ -28,6 +28,7 @@ pub record HeaderInside (s : List ℕ) (h : HeaderSpans) : Type 0 where
   pub value : Inside s (h .value)
 
 pub record RecordInside (s : List ℕ) (r : RecordSpans) : Type 0 where
+  pub timestamp : InBits 64 (r .timestampDelta)
   pub offset : InBits 32 (r .offsetDelta)
   pub key : NullableInside s (r .key)
   pub value : NullableInside s (r .value)
@@ -66,6 +67,7 @@ record-inside {strict} {s} {r = r} x g =
     let f = g .holds in
     let y = fields-stand (sized-stands x (g .sized)) f in
     record {
+      timestamp = f .timestamped .fits;
       offset = f .offset .fits;
       key = nullable-inside strict (r .key) (y .key) (f .keyed);
       value = nullable-inside strict (r .value) (y .value) (f .valued);

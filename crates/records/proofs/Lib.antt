@@ -4,11 +4,15 @@ pub mod Encodes
 pub mod Ends
 mod FieldSteps
 mod Found
+pub mod HeaderFaults
 pub mod Held
 pub mod Inside
+mod Judges
+pub mod KeyFaults
 pub mod Nth
 pub mod Parts
 mod Presence
+pub mod RecordFaults
 pub mod RecordMoves
 pub mod Refusals
 pub mod RunOn
@@ -23,3 +27,5 @@ pub mod Unambiguous
 pub mod Wide
 pub mod Writable
 pub mod Written
+pub mod WorkedNumbers
+pub mod WorkedRows

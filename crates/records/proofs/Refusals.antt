@@ -11,8 +11,9 @@ use lib.IntN.{ℤ, pos, negsuc}
 use lib.ListN.{length, take}
 use Rattle.numbers.specs.Pick.{pick}
 use Rattle.primitives.specs.Step.{Step, ok, no, andThen, mapStep, times}
-use Rattle.primitives.specs.Reading.{unsignedAt, integerAt, byteAt, codeAt, full, limit, varintAt, lengthOf, lengthAt, spanOf, spanAt, bytesOf}
+use Rattle.primitives.specs.Reading.{unsignedAt, integerAt, varintAt, lengthOf, lengthAt, spanOf, spanAt, bytesOf}
 use Rattle.primitives.proofs.Refusing.{RefusedBy, refused-by, and-then-refused, map-refused, pick-refused, times-refused}
+use Rattle.primitives.proofs.NumberFaults.{varint-refused}
 use Rattle.utf8.specs.Judgement.{isUtf8}
 use Rattle.records.specs.Judgement.{present, countAt, bytesAt, keyAt, headerAt, deltasAt, headAt, fieldsAt, recordAt, runAt, recordsAt}
 
@@ -48,21 +49,8 @@ pub integer-refuses : (n : ℕ) (s : List ℕ) (p : ℕ) → Refuses (integerAt 
 unfolding integerAt unsignedAt
 integer-refuses n s p = map-refuses _ (unsignedAt n s p) (pick-refuses (leb (p + n) (length s)) (ok _ _) (no 8) tt (omega arith, omega arith))
 
-byte-refuses : (s : List ℕ) (p : ℕ) → Refuses (byteAt s p)
-unfolding byteAt
-byte-refuses s p = pick-refuses (ltb p (length s)) (ok _ _) (no 8) tt (omega arith, omega arith)
-
-code-refuses : (k limit : ℕ) (s : List ℕ) (p : ℕ) → Refuses (codeAt k limit s p)
-unfolding codeAt
-code-refuses zero limit s p =
-    and-then-refuses (byteAt s p) _ (byte-refuses s p) (λ b m. pick-refuses (ltb b limit) (ok b m) (no 9) tt (omega arith, omega arith))
-code-refuses (suc k) limit s p =
-    and-then-refuses (byteAt s p) _ (byte-refuses s p)
-    (λ b m. pick-refuses (ltb b 128) (ok b m) _ tt (map-refuses _ (codeAt k limit s m) (code-refuses k limit s m)))
-
 varint-refuses : (w : ℕ) (s : List ℕ) (p : ℕ) → Refuses (varintAt w s p)
-unfolding varintAt
-varint-refuses w s p = map-refuses _ (codeAt (full w) (limit w) s p) (code-refuses (full w) (limit w) s p)
+varint-refuses = varint-refused numbers (omega arith, omega arith) (omega arith, omega arith)
 
 length-of-refuses : (nullable : Bool) (z : ℤ) (p : ℕ) → Refuses (lengthOf nullable z p)
 length-of-refuses nullable (pos n) p = tt

@@ -40,7 +40,7 @@ unfolding recordRows
 records-wide first [] = tt
 records-wide first (r ∷ rest) = (length-record-row first r, records-wide (first + length (r .headers)) rest)
 
-length-record-rows : (first : ℕ) (rs : List RecordSpans) → length (recordRows first rs) ≡ length rs
+pub length-record-rows : (first : ℕ) (rs : List RecordSpans) → length (recordRows first rs) ≡ length rs
 unfolding recordRows
 length-record-rows first [] = refl
 length-record-rows first (r ∷ rest) = ap suc (length-record-rows (first + length (r .headers)) rest)
@@ -57,7 +57,7 @@ headers-wide [] = tt
 headers-wide (r ∷ rest) =
     wide-append 4 (map headerRow (r .headers)) (headerRows rest) (run-wide (r .headers)) (headers-wide rest)
 
-length-header-rows : (rs : List RecordSpans) → length (headerRows rs) ≡ headersIn rs
+pub length-header-rows : (rs : List RecordSpans) → length (headerRows rs) ≡ headersIn rs
 unfolding headerRows headersIn
 length-header-rows [] = refl
 length-header-rows (r ∷ rest) = rw (length-append, length-map, length-header-rows rest)

@@ -1,4 +1,5 @@
 pub mod Format
+pub mod Faults
 pub mod Written
 pub mod Inside
 pub mod Judgement
@@ -9,3 +10,4 @@ pub mod Promises
 pub mod Starred
 pub mod Statements
 pub mod Parts
+pub mod Worked

@@ -5,7 +5,7 @@ use mathlib.Core.Option.{Option, none, some}
 use mathlib.Core.List.{List, [], _∷_, _++_, map}
 use lib.Dec.{leb}
 use lib.IntN.{ℤ, pos, negsuc}
-use lib.ListN.{length, take, drop}
+use lib.ListN.{length, take, drop, getD}
 use Rattle.numbers.specs.Pick.{pick}
 use Rattle.numbers.specs.Concat.{concat}
 use Rattle.primitives.specs.Reading.{Span}
@@ -43,6 +43,10 @@ headerRows [] = []
 headerRows (r ∷ rest) = map headerRow (r .headers) ++ headerRows rest
 
 -- ---- tables
+
+-- number k of a row of a table whose rows have w
+abbrev pub cell : ℕ → List ℤ → ℕ → ℕ → ℤ
+cell w t row k = getD t (row * w + k) (pos 0)
 
 -- a table with rows of w numbers put in from a given row on; all else is as it was
 unfoldable pub filled : ℕ → ℕ → List (List ℤ) → List ℤ → List ℤ

@@ -7,6 +7,7 @@ use mathlib.Core.List.{List, [], _∷_, _++_, map}
 use lib.IntN.{pos}
 use lib.ListN.{length, take}
 use Rattle.numbers.specs.Bytes.{Bytes}
+use Rattle.numbers.specs.Exactly.{Exactly}
 use Rattle.numbers.specs.Format.{InBits}
 use Rattle.primitives.specs.Step.{ok, no, times}
 use Rattle.primitives.specs.Stands.{Stands, Encoding}
@@ -14,9 +15,10 @@ use Rattle.primitives.specs.Shifted.{movedSpan, movedNullable, movedStep}
 use Rattle.records.specs.Format.{Header, Record, Run, HeaderBytes, RecordBytes, RecordsBytes}
 use Rattle.utf8.specs.Grammar.{Octets}
 use Rattle.records.specs.Written.{writtenFields, writtenRecord, writtenRecords}
-use Rattle.records.specs.Judgement.{HeaderSpans, RecordSpans, headerAt, recordAt, runAt, recordsAt}
+use Rattle.records.specs.Judgement.{HeaderSpans, RecordSpans, keyAt, headerAt, fieldsAt, recordAt, runAt, recordsAt}
 use Rattle.records.specs.Rows.{recordRow, recordRows, headersIn}
 use Rattle.records.specs.Placed.{placedHeader, placedRecord, placedRecords, shownHeader, shownRecord, shownRecords}
+use Rattle.records.specs.Faults.{KeyWrong, HeaderWrong, FieldsWrong, RecordWrong, RecordsWrong}
 use Rattle.records.specs.Starred.{starredRows, read, due, written, given}
 
 -- ---- reading is the format's
@@ -224,3 +226,23 @@ RecordsShifted =
 -- are what it gives for the value.
 abbrev pub Starred : Type 0
 Starred = (map read starredRows ≡ map due starredRows) × (map written starredRows ≡ map given starredRows)
+
+-- ---- first faults
+
+-- What is refused is refused by the number of its first fault, and wherever there is one: of a header's key, a header,
+-- the fields of a record, a record, and a run of records up to the end of the bytes.
+abbrev pub KeyFaults : Type 0
+KeyFaults = (s : List ℕ) (p n : ℕ) → Bytes s → p ≤ length s → Exactly (keyAt s p ≡ no n) (KeyWrong s p n)
+
+abbrev pub HeaderFaults : Type 0
+HeaderFaults = (s : List ℕ) (p n : ℕ) → Bytes s → p ≤ length s → Exactly (headerAt s p ≡ no n) (HeaderWrong s p n)
+
+abbrev pub FieldsFaults : Type 0
+FieldsFaults = (s : List ℕ) (p n : ℕ) → Bytes s → p ≤ length s → Exactly (fieldsAt s p ≡ no n) (FieldsWrong s p n)
+
+abbrev pub RecordFaults : Type 0
+RecordFaults = (s : List ℕ) (p n : ℕ) → Bytes s → p ≤ length s → Exactly (recordAt s p ≡ no n) (RecordWrong s p n)
+
+abbrev pub FirstFaults : Type 0
+FirstFaults =
+    (s : List ℕ) (count p n : ℕ) → Bytes s → p ≤ length s → Exactly (recordsAt s count p ≡ no n) (RecordsWrong count s p n)

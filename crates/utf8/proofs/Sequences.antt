@@ -1,15 +1,15 @@
 -- The judgement is the grammar's: octets that lie in the ranges of their row are passed over, and nothing else is.
 -- Assumes nothing.
 use Prim.Native.Nat.{ℕ}
-use mathlib.Core.Path.{_≡_, refl, _∙_, subst}
-use mathlib.Core.Bool.{true, false, false≢true}
+use mathlib.Core.Path.{_≡_, refl, sym, _∙_, subst}
+use mathlib.Core.Bool.{Bool, true, false, true≢false, false≢true}
 use mathlib.Core.Option.{Option, none, some}
 use mathlib.Core.List.{List, [], _∷_, _++_}
 use borrow.Author.Tests.{leb-true}
 use lib.Dec.{leb}
 use Rattle.numbers.proofs.Picks.{both-hold}
 use Rattle.utf8.specs.Grammar.{Octets}
-use Rattle.utf8.specs.Judgement.{Range, holds, after, goesOn}
+use Rattle.utf8.specs.Judgement.{Range, holds, after, goesOn, isUtf8}
 use Rattle.utf8.specs.Statements.{Utf8Sound, Utf8Complete, CharInFront, CharUnambiguous}
 use Rattle.utf8.proofs.Rows.{inside, Row, row-after, after-row}
 use Rattle.utf8.proofs.Characters.{Fits, all, more, Begun, begun, char-begun, begun-char}
@@ -65,6 +65,18 @@ none-begun (rest all o) = o
 
 pub utf8-sound : Utf8Sound
 utf8-sound s e = none-begun (sound [] s e)
+
+-- ---- what the one has not, the other has not
+
+pub not-octets : (s : List ℕ) → isUtf8 s ≡ false → Octets s → ⊥
+not-octets s e o = true≢false (sym (utf8-complete s o) ∙ e)
+
+pub not-utf8 : (s : List ℕ) → (Octets s → ⊥) → isUtf8 s ≡ false
+not-utf8 s wrong = by (isUtf8 s) refl
+  where
+    by : (t : Bool) → isUtf8 s ≡ t → t ≡ false
+    by true e = absurd (wrong (utf8-sound s e))
+    by false e = refl
 
 -- ---- octets are read in one way only
 

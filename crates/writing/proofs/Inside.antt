@@ -7,19 +7,18 @@ use native.Mathlib.Omega.{arith}
 use lib.Dec.{eqb}
 use lib.IntN.{ℤ, pos, negsuc}
 use lib.ListN.{length}
-use Rattle.numbers.specs.Format.{inBits}
 use Rattle.primitives.specs.Step.{ok, times}
 use Rattle.primitives.specs.Reading.{Span}
 use Rattle.primitives.proofs.Steps.{ok-not-no, map-ok, and-then-ok, pick-ok, times-each}
 use Rattle.primitives.proofs.Picks.{picked}
 use Rattle.records.specs.Inside.{NullableInside}
 use Rattle.records.specs.Judgement.{HeaderSpans, RecordSpans, Head, withHeaders}
-use Rattle.records.specs.Rows.{Tables}
+use Rattle.records.specs.Rows.{cell, Tables}
 use Rattle.records.specs.Statements.{Each}
 use Rattle.sizes.specs.Inside.{HeaderInside, RecordInside}
 use Rattle.asking.specs.declared.AskedHeader.{AskedHeader}
 use Rattle.asking.specs.declared.HeaderAsked.{HeaderAsked}
-use Rattle.asking.specs.Asked.{cell, askedBytes, askedNullable, askedCount, headerAsked, headerRowAsked, headAsked, RowPlace, recordAsked}
+use Rattle.asking.specs.Asked.{askedBytes, askedNullable, askedCount, headerAsked, headerRowAsked, deltasFit, headAsked, RowPlace, recordAsked}
 use Rattle.asking.specs.Answers.{headerOf, viewHeader}
 use Rattle.asking.proofs.Accepted.{bytes-inside, header-accepted, count-room, next-is}
 use Rattle.asking.proofs.There.{header-there}
@@ -56,7 +55,7 @@ pub record Sound (t : Tables) (s : List ℕ) (first : ℕ) (h : Head) : Type 0 w
 pub sound-at : (t : Tables) (s : List ℕ) (row first : ℕ) (h : Head) (q : ℕ) → headAsked t s row first ≡ ok h q → Sound t s first h
 unfolding headAsked
 sound-at t s row first h q e =
-    let (_, e₁) = picked (inBits 32 (cell 8 (t .records) row 1)) _ 21 e in
+    let (_, e₁) = picked (deltasFit (cell 8 (t .records) row 0) (cell 8 (t .records) row 1)) _ 21 e in
     let (k, _, is, e₂) = and-then-ok (askedNullable (length s) (cell 8 (t .records) row 2) (cell 8 (t .records) row 3) row) _ e₁ in
     let (v, _, is′, e₃) = and-then-ok (askedNullable (length s) (cell 8 (t .records) row 4) (cell 8 (t .records) row 5) row) _ e₂ in
     let (n, is″, same) = map-ok _ (askedCount (length (t .headers) / 4) first (cell 8 (t .records) row 6) (cell 8 (t .records) row 7) row) e₃ in

@@ -1,13 +1,16 @@
 -- `asking::record_row` meets its contract. Assumes nothing.
 use Prim.Native.Nat.{_+_, _*_}
-use mathlib.Core.Path.{_∙_, sym, ap}
+use mathlib.Core.Path.{_≡_, _∙_, sym, ap}
+use mathlib.Core.Bool.{true}
 use native.Mathlib.Nat.{add-zero}
 use lib.IntN.{pos}
 use lib.ListN.{getD}
 use mir.Syntax.{w64}
 use mir.ValLaws.{toZ-ofZ}
 use denote.Ref.{now}
-use Rattle.asking.proofs.RecordRows.{Within32, within-32, offset-below, offset-above, key-wrong, value-wrong, count-wrong, record-got}
+use Rattle.records.specs.Rows.{cell}
+use Rattle.asking.specs.Asked.{deltasFit}
+use Rattle.asking.proofs.RecordRows.{Within32, within-32, deltas-fit, offset-below, offset-above, key-wrong, value-wrong, count-wrong, record-got}
 use borrow.Author.Needs.{needs}
 use Rattle.asking.proofs.record_row.Statement.{statement}
 use Rattle.asking.proofs.record_row.Tie as tie
@@ -35,6 +38,12 @@ small : (d : tie.Else2)
     → Within32 (getD (now (d .before .before .before .before .before .args .records)) (d .before .before .before .before .before .args .row * 8 + 1) (pos 0))
     (record { sfits = d .before .before .offset-delta .given })
 small d = within-32 _ _ (d .before .if1 .left) (d .if2 .left)
+
+-- and the timestamp's of 64
+fit : (d : tie.Else2) → (let given = d .before .before .before .before .before .args in deltasFit (cell 8 (now (given .records)) (given .row) 0) (cell 8 (now (given .records)) (given .row) 1)) ≡ true
+fit d =
+    let given = d .before .before .before .before .before .args in
+    deltas-fit (now (given .records)) (given .row) (cell 8 (now (given .records)) (given .row) 1) (d .before .before .before .timestamp-delta .given) (small d .is)
 
 returns : tie.Need-returns
 returns c = search (offset-below, needs)
@@ -72,7 +81,7 @@ enum-told c = search needs
 returns-3 : tie.Need-returns-3
 returns-3 c =
     let a = c .before .before in
-    key-wrong _ _ _ _ (small (a .before .before .before) .is) (record { sfits = a .before .before .span-asked-arg .given }) (record { sfits = a .before .span-asked-arg2 .given }) _ (a .span-asked .ensures) (c .enum-told .given .1)
+    key-wrong _ _ _ _ (fit (a .before .before .before)) (record { sfits = a .before .before .span-asked-arg .given }) (record { sfits = a .before .span-asked-arg2 .given }) _ (a .span-asked .ensures) (c .enum-told .given .1)
 
 add-span-asked-3 : tie.Need-add-span-asked-3
 add-span-asked-3 c = search needs
@@ -106,7 +115,7 @@ returns-4 c =
     let v = c .before .before in
     let k = v .before .before .before .before in
     let a = k .before .before in
-    value-wrong _ _ _ _ (small (a .before .before .before) .is) (record { sfits = a .before .before .span-asked-arg .given }) (record { sfits = a .before .span-asked-arg2 .given }) _ (a .span-asked .ensures) _
+    value-wrong _ _ _ _ (fit (a .before .before .before)) (record { sfits = a .before .before .span-asked-arg .given }) (record { sfits = a .before .span-asked-arg2 .given }) _ (a .span-asked .ensures) _
     (k .key .given .1) (record { sfits = v .before .before .span-asked-arg3 .given }) (record { sfits = v .before .span-asked-arg4 .given }) _ (v .span-asked2 .ensures) (c .enum-told2 .given .1)
 
 add-asked-count : tie.Need-add-asked-count
@@ -143,7 +152,7 @@ returns-5 c =
     let v = y .before .before in
     let k = v .before .before .before .before in
     let a = k .before .before in
-    count-wrong _ _ _ _ (small (a .before .before .before) .is) (record { sfits = a .before .before .span-asked-arg .given }) (record { sfits = a .before .span-asked-arg2 .given }) _ (a .span-asked .ensures) _
+    count-wrong _ _ _ _ (fit (a .before .before .before)) (record { sfits = a .before .before .span-asked-arg .given }) (record { sfits = a .before .span-asked-arg2 .given }) _ (a .span-asked .ensures) _
     (k .key .given .1) (record { sfits = v .before .before .span-asked-arg3 .given }) (record { sfits = v .before .span-asked-arg4 .given }) _ (v .span-asked2 .ensures) _ (y .value .given .1)
     (record { sfits = n .before .before .asked-count-arg .given }) (record { sfits = n .before .asked-count-arg2 .given }) _ (n .asked-count .ensures) (c .enum-told3 .given .1)
 
@@ -159,7 +168,7 @@ returns-6 c =
     let a = k .before .before in
     let d = a .before .before .before in
     let t = d .before .before .before in
-    record-got _ _ _ _ (small (a .before .before .before) .is) (record { sfits = a .before .before .span-asked-arg .given }) (record { sfits = a .before .span-asked-arg2 .given }) _ (a .span-asked .ensures) _
+    record-got _ _ _ _ (fit (a .before .before .before)) (record { sfits = a .before .before .span-asked-arg .given }) (record { sfits = a .before .span-asked-arg2 .given }) _ (a .span-asked .ensures) _
     (k .key .given .1) (record { sfits = v .before .before .span-asked-arg3 .given }) (record { sfits = v .before .span-asked-arg4 .given }) _ (v .span-asked2 .ensures) _ (y .value .given .1)
     (record { sfits = n .before .before .asked-count-arg .given }) (record { sfits = n .before .asked-count-arg2 .given }) _ (n .asked-count .ensures) _ _ _ (c .before .count .given .1)
     (toZ-ofZ w64 _ (record { sfits = t .timestamp-delta .given }) ∙ ap (λ i. getD (now (t .before .before .args .records)) i (pos 0)) (sym (add-zero (t .before .before .args .row * 8))))
