@@ -74,9 +74,9 @@ module _ (s : List ℕ) (t : Tables) (o : ReadOutcome) (b : RecordBatch) (kind :
     goes-again _ j (cramped _ a _) = named (ap (λ (y : Answer). y .fields) (sym (ap viewRead e) ∙ a))
 
     pub again : ReadPromise s t o → Again
-    again p = goes-again (judge s) refl (goes (judge s) t o p)
+    again p = goes-again (judge s) refl (goes (judge s) t o (p .by))
 
 pub rewritable : Rewritable
-rewritable s t o b kind headers consumed r bytes p e m =
-    let x = again s t o b kind headers consumed bytes e p in
+rewritable s t o b kind headers consumed r p e m =
+    let x = again s t o b kind headers consumed (p .lent) e p in
     (length (rewritten s (x .batch)), single-written _ r (Written.Bytes _) (m ∙ ap measured (x .gives)) refl, x .within)

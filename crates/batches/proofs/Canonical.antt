@@ -9,6 +9,7 @@ use native.Mathlib.Nat.{zero-add}
 use borrow.Author.Tests.{le-leb}
 use lib.ListN.{length}
 use Rattle.numbers.specs.Bytes.{Bytes}
+use Rattle.numbers.specs.Exactly.{Exactly}
 use Rattle.primitives.proofs.Places.{whole}
 use Rattle.records.specs.Format.{Record}
 use Rattle.writing.specs.declared.Written.{Written}
@@ -49,19 +50,25 @@ strict-canonical s b bytes g =
       rewritten = own-tables-given o ∙ ap given (ap writtenBatch shows ∙ sym (batch-written g));
     }
 
-pub canonical-strict : CanonicalStrict
-canonical-strict s bytes =
+pub canonical-is-strict : (s : List ℕ) → Bytes s → Exactly (Canonical s) ((b : Batch Record) × BatchBytes true s b)
+canonical-is-strict s bytes =
     (λ c. (shownBatch s (c .batch), canonical-encodes s bytes c), λ (b, g). strict-canonical s b bytes g)
+
+pub canonical-strict : CanonicalStrict
+canonical-strict s r p =
+    let (x, y) = canonical-is-strict s (p .lent) in
+    (λ e. x (p .says .0 e), λ g. p .says .1 (y g))
 
 -- ---- read and written again
 
 pub canonical-again : CanonicalAgain
-canonical-again s t o b kind headers consumed out w bytes canonical p e h q =
-    let c = canonical .0 refl in
+canonical-again s t o b kind headers consumed out w canonical p e h q =
+    let bytes = canonical .lent in
+    let c = canonical .says .0 refl in
     let x = again s t o b kind headers consumed bytes e p in
     let same : x .batch ≡ c .batch = same-accepted (sym (x .judged) ∙ c .judged) in
     let gives = x .gives ∙ ap given (ap (rewritten s) same ∙ canonical-written s bytes c) in
     let room = le-leb (0 + length s) (length out) (omega arith) in (
-      single-written _ (w .result) (Written.Bytes (length s)) (q .answer ∙ ap (answerDue 0 out) gives ∙ rw room) refl,
-      q .output ∙ ap (outputDue 0 out) gives ∙ rw (room, zero-add),
+      single-written _ (w .result) (Written.Bytes (length s)) (q .by .answer ∙ ap (answerDue 0 out) gives ∙ rw room) refl,
+      q .by .output ∙ ap (outputDue 0 out) gives ∙ rw (room, zero-add),
     )

@@ -20,20 +20,17 @@ use Rattle.records.specs.Format.{Record}
 use Rattle.records.proofs.Complete.{records-complete}
 use Rattle.records.proofs.Shows.{records-shows}
 use Rattle.layout.specs.Table.{table}
-use Rattle.layout.specs.Batch.{Marker, abort, commit, Content, control, records, Batch}
+use Rattle.layout.specs.Batch.{Marker, Content, control, records, Batch}
 use Rattle.layout.specs.Format.{howMany, Counts, exactly, minusOne, markerType, MarkerBytes, ContentBytes, BatchBytes}
-use Rattle.opening.specs.Judgement.{accepted, Attributes, numberIn, attributesIn, fieldsIn, totalAt, openedAt, contentAt, wholeAt, judgeWith, markerOf, bareMarkerAt, apart}
+use Rattle.opening.specs.Judgement.{accepted, Attributes, numberIn, attributesIn, fieldsIn, totalAt, openedAt, contentAt, wholeAt, judgeWith, bareMarkerAt, apart}
 use Rattle.opening.proofs.Tests.{Says, there, opened, total-is, opening-is}
+use Rattle.opening.proofs.MarkerFaults.{marker-again}
 use Rattle.batches.specs.Placed.{placedContent, placedBatch, shownContent}
 use Rattle.batches.specs.Statements.{Complete}
 use Rattle.batches.proofs.Apart.{controls, saidBy, attributes-apart}
 use Rattle.batches.proofs.Parts.{parts-stand, fixed-there, counted-enough, ends}
 
 -- ---- the marker, or the records
-
-marker-again : (m : Marker) (p : ℕ) → markerOf (pos (markerType m)) p ≡ ok m p
-marker-again abort p = refl
-marker-again commit p = refl
 
 marker-reads : {s : List ℕ} {p : ℕ} {bs : List ℕ} {m : Marker} → Stands s p (length s) bs → MarkerBytes bs m
     → bareMarkerAt s p ≡ ok m (length s)

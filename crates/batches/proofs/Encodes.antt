@@ -28,7 +28,7 @@ use Rattle.layout.proofs.Flags.{timestamp-small, bit-small, control-small}
 use Rattle.markers.proofs.Encodes.{marker-encodes}
 use Rattle.batches.specs.Placed.{shownContent}
 use Rattle.batches.specs.Writer.{writtenContent, writtenFixed, checkedBytes, batchLengthOf, writtenBatch, mostLength}
-use Rattle.batches.specs.Rewriting.{InWidth}
+use Rattle.batches.specs.Request.{InWidth}
 use Rattle.batches.proofs.AllBytes.{concat-bytes, content-bytes}
 
 -- ---- what follows the fixed fields

@@ -21,7 +21,7 @@ use Rattle.layout.specs.Batch.{Fields, Content, control, records}
 use Rattle.layout.specs.Format.{BatchBytes}
 use Rattle.batches.specs.Placed.{shownContent}
 use Rattle.batches.specs.Writer.{writtenContent, batchLengthOf, writtenBatch, Wanted, marker, rows, contentAsked, mostLength, batchGivenBy, batchGiven}
-use Rattle.batches.specs.Rewriting.{InWidth, Numbers64}
+use Rattle.batches.specs.Request.{InWidth}
 use Rattle.batches.proofs.Encodes.{WritableContent, content-length, shows, shown-encodes}
 
 -- ---- which way a test went
@@ -59,20 +59,20 @@ given-for x codec wanted t s e =
 
 -- ---- it can be written
 
-asked-writable : (wanted : Wanted) (t : Tables) (s : List ℕ) (c : Content RecordSpans) (p : RowPlace) → Numbers64 (t .records)
+asked-writable : (wanted : Wanted) (t : Tables) (s : List ℕ) (c : Content RecordSpans) (p : RowPlace)
     → contentAsked wanted t s ≡ ok c p → length (writtenContent (shownContent s c)) < 2 ^ 31 → WritableContent (shownContent s c)
 unfolding writtenContent
-asked-writable (marker m) t s c p numbers e h =
+asked-writable (marker m) t s c p e h =
     let w : control m ≡ c = cc in
     subst (λ (c : Content RecordSpans). WritableContent (shownContent s c)) w tt
-asked-writable (rows n) t s c p numbers e h =
+asked-writable (rows n) t s c p e h =
     let (rs, is, w) = map-ok records (recordsAsked t s 0 n) e in
     let short = subst (λ (c : Content RecordSpans). length (writtenContent (shownContent s c)) < 2 ^ 31) (sym w) h in
-    subst (λ (c : Content RecordSpans). WritableContent (shownContent s c)) w (all-writable _ (records-asked t s numbers 0 n rs p is) short)
+    subst (λ (c : Content RecordSpans). WritableContent (shownContent s c)) w (all-writable _ (records-asked t s 0 n rs p is) short)
 
-pub given-encodes : (x : Fields) (wanted : Wanted) (t : Tables) (s : List ℕ) {bs : List ℕ} → InWidth x → Numbers64 (t .records) → Bytes s
+pub given-encodes : (x : Fields) (wanted : Wanted) (t : Tables) (s : List ℕ) {bs : List ℕ} → InWidth x → Bytes s
     → (g : GivenFor x (contentAsked wanted t s) s bs) → BatchBytes true bs (shows x s (g .content))
-given-encodes x wanted t s i numbers b g =
+given-encodes x wanted t s i b g =
     let within = content-length (shows x s (g .content)) in
-    let w = asked-writable wanted t s (g .content) (g .place) numbers (g .is) (omega (arith, g .short)) in
+    let w = asked-writable wanted t s (g .content) (g .place) (g .is) (omega (arith, g .short)) in
     subst (λ (bs : List ℕ). BatchBytes true bs (shows x s (g .content))) (sym (g .bytes)) (shown-encodes s x (g .content) b w i (g .short))

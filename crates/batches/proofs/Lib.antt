@@ -5,13 +5,16 @@ mod Apart
 mod Bits
 pub mod Canonical
 pub mod Complete
+pub mod Demand2
 pub mod Encodes
+pub mod Faults
+pub mod Filled
 pub mod Given
 pub mod Giving
 mod Handed
 pub mod Numbers
 pub mod Only
-mod Own
+pub mod Own
 mod Parts
 pub mod Passed
 pub mod Pieces

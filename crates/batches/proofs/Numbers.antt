@@ -2,12 +2,12 @@
 -- numbers, and those of the marker and of the records are later ones. Assumes nothing.
 use Prim.Native.Nat.{ℕ, _+_, _^_, _≤_, _<_}
 use mathlib.Core.Path.{_≡_, refl, ap, subst, transport, transport⁻¹}
-use mathlib.Core.Bool.{Bool, true, false}
+use mathlib.Core.Bool.{Bool, true}
 use mathlib.Core.Logic.{_⊎_, inl, inr}
 use mathlib.Core.List.{List}
 use native.Mathlib.Omega.{arith}
 use native.Mathlib.Nat.{zero-add}
-use borrow.Author.Tests.{ltb-true, lt-ltb, ne-eqb}
+use borrow.Author.Tests.{ltb-true, lt-ltb}
 use lib.Dec.{ltb}
 use lib.IntN.{ℤ, pos, negsuc}
 use lib.ListN.{length, take, length-take}
@@ -19,9 +19,9 @@ use Rattle.records.proofs.Refusals.{Refuses, refusal-within, and-then-refuses, 
 use Rattle.layout.specs.Table.{Slot, table}
 use Rattle.layout.specs.Batch.{Marker, abort, commit}
 use Rattle.opening.specs.Judgement.{refused, accepted, unsignedIn, numberIn, attributesIn, is, below, Control, contentAt, markerOf, endedAt, bareMarkerAt, judge}
-use Rattle.opening.proofs.Tests.{Totals, low, unknown, there, is-false, Openings, no-attributes, unknown-codec, no-fields, low-count, compressed, wrong-count}
+use Rattle.opening.proofs.Tests.{Totals, low, unknown, there, is-false, is-not, Openings, no-attributes, unknown-codec, no-fields, low-count, compressed, wrong-count}
 use Rattle.batches.specs.Answers.{Standing}
-use Rattle.batches.specs.Statements.{Within, Refusals, BareMarkerWithin, Whole, sum, Checked, codec, Below, CountIs, CountBelow, Numbers}
+use Rattle.batches.specs.Statements.{Within, Refusals, BareMarkerWithin, Whole, sum, Checked, codec, Below, CountIs, FrontWrong, Numbers}
 use Rattle.batches.proofs.Refused.{Right, WholeRefusal, differs, unopened, unread, Refusal, unsized, sized, refusal, refused-is, content-no}
 
 -- ---- the bare marker
@@ -81,22 +81,22 @@ refusals way within s at first n e = refusal-stands way within (refusal way s at
 -- ---- the batch's bytes alone say of it what the list says
 
 module _ (s : List ℕ) (n : ℕ) where
-  abbrev window : List ℕ
+  abbrev pub window : List ℕ
   window = take (0 + (12 + n)) s
 
   unsigned-same : (f : Slot) → f .place + f .bytes ≤ 12 + n → unsignedIn f window 0 ≡ unsignedIn f s 0
   unsigned-same f h = big-window (f .bytes) (0 + (12 + n)) s (0 + f .place) (omega arith)
 
-  attributes-same : 11 ≤ n → unsignedIn (table .attributes) window 0 ≡ unsignedIn (table .attributes) s 0
+  pub attributes-same : 11 ≤ n → unsignedIn (table .attributes) window 0 ≡ unsignedIn (table .attributes) s 0
   attributes-same h = unsigned-same (table .attributes) (omega arith)
 
-  count-same : 49 ≤ n → numberIn (table .count) window 0 ≡ numberIn (table .count) s 0
+  pub count-same : 49 ≤ n → numberIn (table .count) window 0 ≡ numberIn (table .count) s 0
   count-same h = ap (signedBy (2 ^ 31)) (unsigned-same (table .count) (omega arith))
 
-  right-same : 9 ≤ n → Right window 0 ≡ (unsignedIn (table .crc) s 0 ≡ sum s n)
+  pub right-same : 9 ≤ n → Right window 0 ≡ (unsignedIn (table .crc) s 0 ≡ sum s n)
   right-same h = rw (unsigned-same (table .crc) (omega arith), zero-add (12 + n))
 
-window-length : {s : List ℕ} {n : ℕ} → Checked s n → length (window s n) ≡ 12 + n
+pub window-length : {s : List ℕ} {n : ℕ} → Checked s n → length (window s n) ≡ 12 + n
 window-length {s} {n} c = rw (length-take (0 + (12 + n)) s) (omega (arith, c .whole .all-there))
 
 -- ---- numbers 2 to 7
@@ -133,7 +133,7 @@ module _ {s : List ℕ} where
       })
       w l
 
-  frame : {n : ℕ} → Whole s n → Totals s 0 (accepted (12 + n))
+  pub frame : {n : ℕ} → Whole s n → Totals s 0 (accepted (12 + n))
   frame a =
       let f = a .framed in there (f .there) (f .length-is) (f .length-enough) (f .magic-is) (omega (arith, a .all-there))
 
@@ -143,10 +143,6 @@ module _ {s : List ℕ} where
       sized (frame a) (differs (λ e. c (transport (right-same s n (a .framed .length-enough)) e)))
   early-is (by-fields {n} c f) =
       sized (frame (c .whole)) (unopened (transport⁻¹ (right-same s n (c .whole .framed .length-enough)) (c .crc-is)) f)
-
-is-not : (n : ℕ) (z : ℤ) → (z ≡ pos n → ⊥) → is n z ≡ false
-is-not n (pos m) f = ne-eqb m n (λ e. f (ap pos e))
-is-not n (negsuc k) f = refl
 
 module _ (s : List ℕ) where
   below-is : (z : ℤ) → below 9 z ≡ true → Below z 9
@@ -161,101 +157,52 @@ module _ (s : List ℕ) where
   not-below (pos n) f = (n, refl, omega (arith, f))
   not-below (negsuc k) f = absurd (f tt)
 
-  -- what document 01 says of each
+  -- an early refusal says what document 01 says of its number
 
-  abbrev Two : Type 0
-  Two = (12 ≤ length s) × Below (numberIn (table .batchLength) s 0) 9
-
-  abbrev Three : Type 0
-  Three = (17 ≤ length s) × (Below (numberIn (table .batchLength) s 0) 9 → ⊥) × (numberIn (table .magic) s 0 ≡ pos 2 → ⊥)
-
-  abbrev Four : Type 0
-  Four = (n : ℕ) × Whole s n × (unsignedIn (table .crc) s 0 ≡ sum s n → ⊥)
-
-  abbrev Five : Type 0
-  Five = (n : ℕ) × Checked s n × (11 ≤ n) × (5 ≤ codec s)
-
-  abbrev Six : Type 0
-  Six = (n : ℕ) × Checked s n × (49 ≤ n) × (1 ≤ codec s) × (codec s ≤ 4) × ((m : ℕ) × CountIs s m)
-
-  abbrev Seven : Type 0
-  Seven =
-      (n : ℕ) × Checked s n × (49 ≤ n) × (codec s ≤ 4)
-      × (CountBelow s ⊎ ((codec s ≡ 0) × (attributesIn s 0 .control ≡ true) × ((m : ℕ) × CountIs s m × (m ≡ 1 → ⊥))))
-
-  -- each early refusal says it
-
-  two-told : Early s 2 → Two
-  two-told (by-frame (low h e)) = (h, below-is (numberIn (table .batchLength) s 0) e)
-
-  three-told : Early s 3 → Three
-  three-told (by-frame (unknown h e f m)) =
-      (h, λ b. let l = subst (λ z. Below z 9) e b in omega arith, is-false 2 (numberIn (table .magic) s 0) m)
-
-  four-told : Early s 4 → Four
-  four-told (by-checksum {n} a c) = (n, a, c)
-
-  five-told : Early s 5 → Five
-  five-told (by-fields {n} c (unknown-codec h f)) =
-      let l : 11 ≤ n = omega (arith, window-length c) in
-      (n, c, l, rw (attributes-same s n l) at f)
-
-  six-told : Early s 6 → Six
-  six-told (by-fields {n} c (compressed {n = m} h d f w)) =
-      let l : 49 ≤ n = omega (arith, window-length c) in
+  early-told : {k : ℕ} → Early s k → k ≤ 7 → FrontWrong s k
+  early-told (by-frame (low h e)) l = FrontWrong.short h (below-is (numberIn (table .batchLength) s 0) e)
+  early-told (by-frame (unknown h e f m)) l =
+      FrontWrong.magic h (λ b. let l = subst (λ z. Below z 9) e b in omega arith) (is-false 2 (numberIn (table .magic) s 0) m)
+  early-told (by-checksum a c) l = FrontWrong.checksum a c
+  early-told (by-fields c (no-attributes h)) l = absurd (omega arith)
+  early-told (by-fields c (no-fields h f g)) l = absurd (omega arith)
+  early-told (by-fields {n} c (unknown-codec h f)) l =
+      let w : 11 ≤ n = omega (arith, window-length c) in
+      FrontWrong.unknown c w (rw (attributes-same s n w) at f)
+  early-told (by-fields {n} c (compressed {n = m} h d f w)) l =
+      let v : 49 ≤ n = omega (arith, window-length c) in
       let e = attributes-same s n (omega arith) in
-      (n, c, l, rw e at d, rw e at f, (m, rw (count-same s n l) at w))
-
-  seven-told : Early s 7 → Seven
-  seven-told (by-fields {n} c (low-count {k} h f w)) =
-      let l : 49 ≤ n = omega (arith, window-length c) in
-      (n, c, l, rw (attributes-same s n (omega arith)) at f, inl (k, rw (count-same s n l) at w))
-  seven-told (by-fields {n} c (wrong-count {n = m} h d t w f)) =
-      let l : 49 ≤ n = omega (arith, window-length c) in
+      FrontWrong.compressed {m = m} c v (rw e at d) (rw e at f) (rw (count-same s n v) at w)
+  early-told (by-fields {n} c (low-count {k} h f w)) l =
+      let v : 49 ≤ n = omega (arith, window-length c) in
+      FrontWrong.low c v (rw (attributes-same s n (omega arith)) at f) (k, rw (count-same s n v) at w)
+  early-told (by-fields {n} c (wrong-count {n = m} h d t w f)) l =
+      let v : 49 ≤ n = omega (arith, window-length c) in
       let e = attributes-same s n (omega arith) in
-      let d′ = rw e at d in
-      (n, c, l, omega (arith, d′), inr (d′, rw e at t, (m, rw (count-same s n l) at w, f)))
+      FrontWrong.control-count {m = m} c v (rw e at d) (rw e at t) (rw (count-same s n v) at w) f
 
   -- and is told by it
 
-  two-early : Two → Early s 2
-  two-early (h, b) = by-frame (low h (is-below (numberIn (table .batchLength) s 0) b))
-
-  three-early : Three → Early s 3
-  three-early (h, b, m) =
+  told-early : {k : ℕ} → FrontWrong s k → Early s k
+  told-early (FrontWrong.short h b) = by-frame (low h (is-below (numberIn (table .batchLength) s 0) b))
+  told-early (FrontWrong.magic h b m) =
       let (n, e, f) = not-below (numberIn (table .batchLength) s 0) b in
       by-frame (unknown h e f (is-not 2 (numberIn (table .magic) s 0) m))
-
-  four-early : Four → Early s 4
-  four-early (n, a, c) = by-checksum a c
-
-  five-early : Five → Early s 5
-  five-early (n, c, l, f) =
+  told-early (FrontWrong.checksum a c) = by-checksum a c
+  told-early (FrontWrong.unknown {n} c l f) =
       by-fields c (unknown-codec (omega (arith, window-length c)) (rw (attributes-same s n l) f))
-
-  six-early : Six → Early s 6
-  six-early (n, c, l, d, f, (m, w)) =
+  told-early (FrontWrong.compressed {n} {m} c l d f w) =
       let e = attributes-same s n (omega arith) in
       by-fields c (compressed {n = m} (omega (arith, window-length c)) (rw e d) (rw e f) (rw (count-same s n l) w))
-
-  seven-early : Seven → Early s 7
-  seven-early (n, c, l, f, inl (k, w)) =
+  told-early (FrontWrong.low {n} c l f (k, w)) =
       let h : 61 ≤ length (window s n) = omega (arith, window-length c) in
       by-fields c (low-count {k = k} h (rw (attributes-same s n (omega arith)) f) (rw (count-same s n l) w))
-  seven-early (n, c, l, _, inr (d, t, (m, w, f))) =
+  told-early (FrontWrong.control-count {n} {m} c l d t w f) =
       let e = attributes-same s n (omega arith) in
       by-fields c (wrong-count {n = m} (omega (arith, window-length c)) (rw e d) (rw e t) (rw (count-same s n l) w) f)
 
-exactly : (s : List ℕ) (k : ℕ) {F : Type 0} → k < 8 → (Early s k → F) → (F → Early s k) → Exactly (judge s ≡ refused k) F
-exactly s k l f g = (λ e. f (early (refusal bareMarkerAt s 0 0 e) l), λ x. refused-is bareMarkerAt s 0 0 (early-is (g x)))
+pub front-refused : {s : List ℕ} {n : ℕ} → FrontWrong s n → judge s ≡ refused n
+front-refused {s} x = refused-is bareMarkerAt s 0 0 (early-is (told-early s x))
 
 pub numbers : Numbers
-numbers s =
-    record {
-      two = exactly s 2 (omega arith) (two-told s) (two-early s);
-      three = exactly s 3 (omega arith) (three-told s) (three-early s);
-      four = exactly s 4 (omega arith) (four-told s) (four-early s);
-      five = exactly s 5 (omega arith) (five-told s) (five-early s);
-      six = exactly s 6 (omega arith) (six-told s) (six-early s);
-      seven = exactly s 7 (omega arith) (seven-told s) (seven-early s);
-    }
+numbers s n l = (λ e. early-told s (early (refusal bareMarkerAt s 0 0 e) (omega arith)) l, front-refused)

@@ -26,7 +26,7 @@ use Rattle.opening.specs.Judgement.{accepted, Accepted, judge}
 use Rattle.batches.specs.Placed.{placedContent, shownContent, shownBatch}
 use Rattle.batches.specs.Answers.{roomsOf, hasRoom, stored}
 use Rattle.batches.specs.Writer.{batchLengthOf, writtenBatch, wantedOf, contentAsked, mostLength, batchGiven, ownTables}
-use Rattle.batches.specs.Rewriting.{InWidth}
+use Rattle.batches.specs.Request.{InWidth}
 use Rattle.batches.proofs.Encodes.{WritableContent, shown-encodes}
 use Rattle.batches.proofs.Only.{batch-short, written-shortest}
 use Rattle.batches.proofs.Parts.{parts-stand}
@@ -63,7 +63,7 @@ pub record Own (s : List ℕ) (b : Accepted) : Type 0 where
   pub within : length (rewritten s b) ≤ b .consumed
   pub first : b .firstHeader ≡ 0
 
-in-width : {strict : Bool} {bs : List ℕ} {b : Batch Record} → BatchBytes strict bs b → InWidth (b .fields)
+pub in-width : {strict : Bool} {bs : List ℕ} {b : Batch Record} → BatchBytes strict bs b → InWidth (b .fields)
 in-width g =
     record {
       baseOffset = g .baseOffset .fits;

@@ -13,25 +13,24 @@ use Rattle.numbers.specs.Promises.{PutPromise}
 use Rattle.numbers.proofs.Pens.{put-emits, emit-inside}
 use Rattle.layout.specs.declared.BatchFields.{BatchFields}
 use Rattle.layout.specs.Table.{uncounted, fixedPart}
-use Rattle.layout.specs.Batch.{Fields}
 use Rattle.layout.specs.Format.{bit, attributesFor}
 use Rattle.layout.specs.Fixed.{viewBatchFields, fixedBefore}
 use Rattle.layout.proofs.Putting.{fixed-length}
 use Rattle.batches.specs.Writer.{mostLength}
 
-pub finish-put : (x : Fields) (y : BatchFields) → viewBatchFields y ≡ x → (isControl : Bool) (attributes count : ℤ) (out : List ℕ) (end : ℕ)
+pub finish-put : (y : BatchFields) (isControl : Bool) (attributes count : ℤ) (out : List ℕ) (end : ℕ)
     (fixed : List ℕ) (next : ℕ) (output : List ℕ) → fixedPart ≤ end → end ≤ uncounted + mostLength → end ≤ length out
     → attributes ≡ pos (attributesFor (viewBatchFields y) (bit isControl))
     → fixed ≡ fixedBefore (viewBatchFields y) (toZ w32 (end - uncounted)) attributes count (take (end - fixedPart) (drop fixedPart out))
     → PutPromise fixed out 0 (record { next = next; output = output })
     → output
-    ≡ fixedBefore x (pos (end - uncounted)) (pos (attributesFor x (bit isControl))) count (take (end - fixedPart) (drop fixedPart out))
+    ≡ fixedBefore (viewBatchFields y) (pos (end - uncounted)) (pos (attributesFor (viewBatchFields y) (bit isControl))) count
+    (take (end - fixedPart) (drop fixedPart out))
     ++ drop fixedPart out
-finish-put x y same isControl attributes count out end fixed next output least most inside made is put =
+finish-put y isControl attributes count out end fixed next output least most inside made is put =
     let body = take (end - fixedPart) (drop fixedPart out) in
     let long : length fixed ≡ fixedPart = ap length is ∙ fixed-length (viewBatchFields y) (toZ w32 (end - uncounted)) attributes count body in
     let place : 0 + length fixed ≡ fixedPart = omega arith in
     let counted = toZ-pos w32 (end - uncounted) (omega arith) in
-    let flags = made ∙ ap (λ (x : Fields). pos (attributesFor x (bit isControl))) same in
-    let fixed-is = is ∙ (λ i. fixedBefore (same i) (counted i) (flags i) count body) in
+    let fixed-is = is ∙ (λ i. fixedBefore (viewBatchFields y) (counted i) (made i) count body) in
     emit-inside 0 out fixed next output (put-emits 0 out fixed next output put) (omega arith) ∙ (λ i. fixed-is i ++ drop (place i) out)

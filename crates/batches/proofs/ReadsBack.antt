@@ -17,10 +17,12 @@ use Rattle.layout.specs.Batch.{Content, control, records, Batch}
 use Rattle.layout.specs.Format.{BatchBytes}
 use Rattle.opening.specs.Judgement.{Judgement, Accepted}
 use Rattle.batches.specs.Placed.{placedBatch, shownContent}
-use Rattle.batches.specs.Answers.{viewRead, acceptedAs, lacksRoom, recordsIn, headersOf, roomsOf, hasRoom, stored}
+use Rattle.batches.specs.Answers.{ofMarker, viewRead, kindOf, acceptedAs, lacksRoom, recordsIn, headersOf, roomsOf, hasRoom, stored}
 use Rattle.batches.specs.Promises.{ReadOutcome, ReadBy, ReadPromise}
-use Rattle.batches.specs.Rewriting.{Request, Asks, batchAsked}
-use Rattle.batches.specs.Demand3.{Enough, SameBatch, ReadsBack}
+use Rattle.batches.specs.Request.{Request}
+use Rattle.batches.specs.Rewriting.{Asks, batchAsked}
+use Rattle.batches.specs.Demand2.{Enough}
+use Rattle.batches.specs.Demand3.{SameBatch, ReadsBack}
 use Rattle.batches.proofs.Complete.{complete}
 use Rattle.batches.proofs.Rooms.{is-room}
 use Rattle.batches.proofs.Written.{written, written-begins}
@@ -39,19 +41,37 @@ headers-shown s (r ∷ rest) = omega (arith, length-map (r .headers) (shownHeade
 records-not-control : {X : Type 0} {R : Type 0} {rs : List R} {m : _} → records rs ≡ control m → X
 records-not-control e = let z : _≡_ {A = ℕ} 0 1 = cc in absurd (omega arith)
 
-room-enough : (s s′ : List ℕ) (a c : Content RecordSpans) (t : Tables) → shownContent s a ≡ shownContent s′ c → Enough c t
+-- two contents that show the same have equal counts, and are of one kind
+pub counts-same : (s s′ : List ℕ) (a c : Content RecordSpans) → shownContent s a ≡ shownContent s′ c
+    → (recordsIn a ≡ recordsIn c) × (headersOf a ≡ headersOf c)
+counts-same s s′ (control m) (control m′) e = (refl, refl)
+counts-same s s′ (control m) (records rs) e = records-not-control (sym e)
+counts-same s s′ (records rs) (control m) e = records-not-control e
+counts-same s s′ (records rs) (records rs′) e =
+    let w : shownRecords s rs ≡ shownRecords s′ rs′ = cc in (
+      sym (length-map rs (shownRecord s)) ∙ ap length w ∙ length-map rs′ (shownRecord s′),
+      headers-shown s rs ∙ ap headersWithin w ∙ sym (headers-shown s′ rs′),
+    )
+
+pub kind-same : (s s′ : List ℕ) (a c : Content RecordSpans) → shownContent s a ≡ shownContent s′ c → kindOf a ≡ kindOf c
+kind-same s s′ (control m) (control m′) e = let w : m ≡ m′ = cc in ap ofMarker w
+kind-same s s′ (control m) (records rs) e = records-not-control (sym e)
+kind-same s s′ (records rs) (control m) e = records-not-control e
+kind-same s s′ (records rs) (records rs′) e = refl
+
+pub room-for : (c : Content RecordSpans) (t : Tables) → Enough c t → hasRoom c 0 (roomsOf t) ≡ true
+room-for (control m) t h = refl
+room-for (records rs) t h = is-room rs 0 (roomsOf t) (h .records) (omega (arith, h .headers))
+
+pub room-enough : (s s′ : List ℕ) (a c : Content RecordSpans) (t : Tables) → shownContent s a ≡ shownContent s′ c → Enough c t
     → hasRoom a 0 (roomsOf t) ≡ true
-room-enough s s′ (control m) c t e h = refl
-room-enough s s′ (records rs) (control m) t e h = records-not-control e
-room-enough s s′ (records rs) (records rs′) t e h =
-    let w : shownRecords s rs ≡ shownRecords s′ rs′ = cc in
-    let many = sym (length-map rs (shownRecord s)) ∙ ap length w ∙ length-map rs′ (shownRecord s′) in
-    let headers = headers-shown s rs ∙ ap headersWithin w ∙ sym (headers-shown s′ rs′) in
-    is-room rs 0 (roomsOf t) (omega (arith, many, h .records)) (omega (arith, headers, h .headers))
+room-enough s s′ a c t e h =
+    let (many, headers) = counts-same s s′ a c e in
+    room-for a t (record { records = omega (arith, many, h .records); headers = omega (arith, headers, h .headers) })
 
 -- ---- reading back
 
-with-room : (a : Accepted) (room : Bool) (t : Tables) (o : ReadOutcome) → room ≡ true
+pub with-room : (a : Accepted) (room : Bool) (t : Tables) (o : ReadOutcome) → room ≡ true
     → viewRead (o .result) ≡ pick room (acceptedAs a) (lacksRoom (recordsIn (a .content)) (headersOf (a .content)))
     → o .tables ≡ pick room (stored (a .content) (a .firstHeader) t) t
     → (viewRead (o .result) ≡ acceptedAs a) × (o .tables ≡ stored (a .content) (a .firstHeader) t)
@@ -67,7 +87,7 @@ module _ (q : Request) (c : Content RecordSpans) (bs after : List ℕ) (t : Tabl
       let (accepts, same) = complete true s 0 0 (length bs) bs (batchAsked q c) (in-front bs after) g in
       let read = placedBatch 0 0 g in
       let content = ap (λ (b : Batch Record). b .content) same in
-      let by = subst (λ (j : Judgement). ReadBy j t o′) accepts promise in
+      let by = subst (λ (j : Judgement). ReadBy j t o′) accepts (promise .by) in
       let (answered, stores) =
       with-room read (hasRoom (read .content) 0 (roomsOf t)) t o′ (room-enough s (q .source) (read .content) c t content enough)
       (by .answer) (by .tables) in
@@ -78,8 +98,8 @@ pub asked-once : (q : Request) {c c′ : Content RecordSpans} → Asks q c → A
 asked-once q {c} {c′} x y = let w : ok c (x .place) ≡ ok c′ (y .place) = sym (x .is) ∙ y .is in cc
 
 pub reads-back : ReadsBack
-reads-back q c out o n after t o′ sensible promise e asks read enough =
-    let w = written q out o n sensible promise e in
+reads-back q c out o n after t o′ promise e asks read enough =
+    let w = written q out o n promise e in
     let begins = written-begins w in
     let same = asked-once q (w .asked) asks in
     let g = subst (λ (c : Content RecordSpans). BatchBytes true (w .bytes) (batchAsked q c)) same (w .encodes) in

@@ -124,7 +124,7 @@ more-bytes-with way within at first s t o n e = (
 )
 
 pub more-bytes : MoreBytes
-more-bytes = more-bytes-with bareMarkerAt bare-marker-within 0 0
+more-bytes s t o n e = more-bytes-with bareMarkerAt bare-marker-within 0 0 s t o n (e .by)
 
 pub no-room-with : NoRoomWith
 no-room-with way within at first s t o n m e = (
@@ -135,7 +135,7 @@ no-room-with way within at first s t o n m e = (
 pub no-room : NoRoom
 no-room s t o n m e =
     let first : (b : Accepted) → judge s ≡ accepted b → b .firstHeader ≡ 0 = first-is bareMarkerAt s 0 0 in
-    let by = no-room-with bareMarkerAt bare-marker-within 0 0 s t o n m e in (
+    let by = no-room-with bareMarkerAt bare-marker-within 0 0 s t o n m (e .by) in (
       λ w. let (b, q, x, y, h) = by .0 w in (b, q, x, y, rows-short b t n m (first b q) x y .0 h),
       λ (b, q, x, y, h). by .1 (b, q, x, y, rows-short b t n m (first b q) x y .1 h),
     )

@@ -110,12 +110,12 @@ pub room-free-with : RoomFreeWith
 room-free-with way at first s t t′ o o′ = same-in-any t t′ o o′ (judgeWith way s at first)
 
 pub room-free : RoomFree
-room-free = room-free-with bareMarkerAt 0 0
+room-free s t t′ o o′ e e′ = room-free-with bareMarkerAt 0 0 s t t′ o o′ (e .by) (e′ .by)
 
 -- ---- one outcome
 
 pub untouched : Untouched
-untouched s t o e none = by (judge s) (goes (judge s) t o e)
+untouched s t o e none = by (judge s) (goes (judge s) t o (e .by))
   where
     by : (j : Judgement) → Goes t o j → o .tables ≡ t
     by _ (wanting a w) = w
@@ -124,7 +124,7 @@ untouched s t o e none = by (judge s) (goes (judge s) t o e)
     by _ (cramped h a w) = w
 
 pub check-agrees : CheckAgrees
-check-agrees s r t o c e fourteen = by (judge s) (goes (judge s) t o e) c
+check-agrees s r t o c e fourteen = by (judge s) (goes (judge s) t o (e .by)) (c .answer)
   where
     by : (j : Judgement) → Goes t o j → viewCheck r ≡ answerWithRoom j → viewCheck r ≡ viewRead (o .result)
     by _ (wanting a w) c = c ∙ sym a

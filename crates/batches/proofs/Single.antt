@@ -101,7 +101,7 @@ view-read-injective r r′ e = single-view viewRead read read-again (viewRead r�
 -- ---- the promises
 
 pub single-check : (s : List ℕ) → Single (CheckPromise s)
-single-check s r r′ e e′ = view-check-injective r r′ (e ∙ sym e′)
+single-check s r r′ e e′ = view-check-injective r r′ (e .answer ∙ sym (e′ .answer))
 
 pub single-read-by : (j : Judgement) (t : Tables) → Single (ReadBy j t)
 single-read-by j t o o′ e e′ =
@@ -110,7 +110,7 @@ single-read-by j t o o′ e e′ =
     λ i. record { result = p i; tables = q i }
 
 pub single-read : (s : List ℕ) (t : Tables) → Single (ReadPromise s t)
-single-read s t = single-read-by (judge s) t
+single-read s t o o′ e e′ = single-read-by (judge s) t o o′ (e .by) (e′ .by)
 
 pub single-body-reader : (body : RefT (List ℕ)) (at : ℕ) → Single (BodyReaderPromise body at)
 single-body-reader body at = single-value _
@@ -133,7 +133,7 @@ pub single-measure : (b : RecordBatch) (codec : ℕ) (k : ControlBatchOrRecords)
 single-measure b codec k t s = single-written _
 
 pub single-write : (b : RecordBatch) (codec : ℕ) (k : ControlBatchOrRecords) (t : Tables) (s out : List ℕ) → Single (WritePromise b codec k t s out)
-single-write b codec k t s out = single-write-by _ 0 out
+single-write b codec k t s out o o′ e e′ = single-write-by _ 0 out o o′ (e .by) (e′ .by)
 
 pub single-is-canonical : (s : List ℕ) → Single (CanonicalPromise s)
-single-is-canonical s = single-exactly (Canonical s)
+single-is-canonical s r r′ e e′ = single-exactly (Canonical s) r r′ (e .says) (e′ .says)

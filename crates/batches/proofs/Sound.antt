@@ -13,15 +13,13 @@ use lib.IntN.{ℤ, pos}
 use lib.ListN.{length, take, length-map}
 use lib.Seq.{length-take-le}
 use Rattle.numbers.specs.Bytes.{Bytes}
-use Rattle.numbers.specs.Pick.{pick}
 use Rattle.numbers.specs.Concat.{concat}
 use Rattle.numbers.specs.Format.{Unsigned, Integer}
-use Rattle.primitives.specs.Step.{ok, no, andThen}
+use Rattle.primitives.specs.Step.{ok, andThen}
 use Rattle.primitives.specs.Stands.{Stands, Encoding}
 use Rattle.primitives.specs.Reading.{signedBy, integerAt}
-use Rattle.primitives.proofs.Steps.{ok-not-no, and-then-ok, map-ok}
+use Rattle.primitives.proofs.Steps.{and-then-ok, map-ok}
 use Rattle.primitives.proofs.Places.{joined, all-left}
-use Rattle.primitives.proofs.Integers.{integer-sound}
 use Rattle.primitives.proofs.Windows.{outside, window-bytes, big-window}
 use Rattle.primitives.proofs.Picks.{picked, passed-over}
 use Rattle.crc32c.specs.Crc.{crc32c}
@@ -31,10 +29,11 @@ use Rattle.records.specs.Placed.{shownRecord}
 use Rattle.records.proofs.Shows.{records-shows}
 use Rattle.records.proofs.Sound.{records-sound}
 use Rattle.layout.specs.Table.{Slot, table, uncountedFields, uncheckedFields, checkedFields}
-use Rattle.layout.specs.Batch.{Marker, abort, commit, Content, control, records, Batch}
+use Rattle.layout.specs.Batch.{Marker, Content, control, records, Batch}
 use Rattle.layout.specs.Format.{bit, controlBit, howMany, Counts, markerType, MarkerBytes, ContentBytes, BatchBytes}
 use Rattle.opening.specs.Judgement.{Accepted, unsignedIn, numberIn, attributesIn, fieldsIn, is, contentAt, markerOf, endedAt, bareMarkerAt}
 use Rattle.opening.proofs.Tests.{Says, is-true}
+use Rattle.opening.proofs.MarkerFaults.{type-read, sixteen}
 use Rattle.batches.specs.Placed.{placedContent, placedBatch, shownContent, shownBatch}
 use Rattle.batches.specs.Statements.{Sound}
 use Rattle.batches.proofs.Bits.{together}
@@ -43,12 +42,6 @@ use Rattle.batches.proofs.Pieces.{piece, pieces, piece-unsigned, piece-
 
 -- ---- a control batch's marker
 
-type-read : (z : ℤ) {m : Marker} {p q : ℕ} (a c : Bool) → is 0 z ≡ a → is 1 z ≡ c → pick a (ok abort p) (pick c (ok commit p) (no 12)) ≡ ok m q
-    → (z ≡ pos (markerType m)) × (p ≡ q)
-type-read z {m} true c f g e = let w : abort ≡ m = cc in (is-true 0 z f ∙ ap (λ (m : Marker). pos (markerType m)) w, cc)
-type-read z {m} false true f g e = let w : commit ≡ m = cc in (is-true 1 z g ∙ ap (λ (m : Marker). pos (markerType m)) w, cc)
-type-read z false false f g e = ok-not-no (sym e)
-
 ended-read : (s : List ℕ) {m k : Marker} {p q : ℕ} → endedAt s k p ≡ ok m q → (length s ≤ q) × (k ≡ m) × (p ≡ q)
 ended-read s {m} {k} {p} {q} e =
     let (t, i) = passed-over (ltb p (length s)) (ok k p) 13 e in
@@ -56,9 +49,6 @@ ended-read s {m} {k} {p} {q} e =
     (rw (← w) (ltb-false p (length s) t), cc, w)
 
 module _ (s : List ℕ) (b : Bytes s) where
-  sixteen : {p q : ℕ} {z : ℤ} → integerAt 2 s p ≡ ok z q → Encoding (Integer 2) s p q z
-  sixteen {p} {q} {z} e = integer-sound 2 s p z q (omega arith) b e
-
   marker-joined : {p k q : ℕ} {m : Marker} → Encoding (Integer 2) s p k (pos 0) → Encoding (Integer 2) s k q (pos (markerType m))
       → Encoding MarkerBytes s p q m
   marker-joined x y =
@@ -77,8 +67,8 @@ module _ (s : List ℕ) (b : Bytes s) where
       let (z, _, c, d) = and-then-ok (integerAt 2 s k) markerOf f in
       let (u, w) = type-read z (is 0 z) (is 1 z) refl refl d in
       let (h, a, o) = ended-read s g in
-      let version = subst (Encoding (Integer 2) s p k) (is-true 0 v t) (sixteen i) in
-      let kind = subst₂ (λ (r : ℕ) (n : ℤ). Encoding (Integer 2) s k r n) (w ∙ o) (u ∙ ap (λ (y : Marker). pos (markerType y)) a) (sixteen c) in
+      let version = subst (Encoding (Integer 2) s p k) (is-true 0 v t) (sixteen s b i) in
+      let kind = subst₂ (λ (r : ℕ) (n : ℤ). Encoding (Integer 2) s k r n) (w ∙ o) (u ∙ ap (λ (y : Marker). pos (markerType y)) a) (sixteen s b c) in
       let y = marker-joined version kind in
       (y, omega (arith, h, y .stands .within))
 

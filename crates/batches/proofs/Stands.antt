@@ -1,7 +1,7 @@
 -- A judgement stands: what it asks of a list lies within it, so that a longer list answers the same, and the batch's
 -- own bytes are the same bytes. So the answers by it are those of one judgement. Assumes nothing.
 use Prim.Native.Nat.{ℕ, _+_, _^_, _*_, _-_, _≤_}
-use mathlib.Core.Path.{_≡_, refl, ap, _∙_, subst}
+use mathlib.Core.Path.{_≡_, refl, sym, ap, _∙_, subst}
 use mathlib.Core.List.{List, _++_}
 use native.Mathlib.Omega.{arith}
 use lib.ListN.{length, length-append}
@@ -15,7 +15,7 @@ use Rattle.opening.proofs.Tests.{Totals, few, low, short, unknown, lacking, the
 use Rattle.batches.specs.Answers.{viewRead, answerWithRoom, roomsOf, answerOf}
 use Rattle.batches.specs.Promises.{ReadOutcome, ReadBy}
 use Rattle.batches.specs.Demand3.{StandsWith, Stands, JudgeStandsWith, JudgeStands, CheckStands, NoRoomStandsWith, NoRoomStands}
-use Rattle.batches.proofs.Single.{single-check}
+use Rattle.batches.proofs.Single.{view-check-injective}
 use Rattle.batches.proofs.Rooms.{numbered, same-in-larger, same-in-as-many}
 
 -- ---- the judgement
@@ -74,16 +74,16 @@ stands-with way at first s after t t′ o o′ e e′ l one =
     same-in-larger t t′ o o′ _ e (by-the-same way at first s after t t′ o o′ e e′ one) l one
 
 pub stands : Stands
-stands = stands-with bareMarkerAt 0 0
+stands s after t t′ o o′ e e′ = stands-with bareMarkerAt 0 0 s after t t′ o o′ (e .by) (e′ .by)
 
 pub no-room-stands-with : NoRoomStandsWith
 no-room-stands-with way at first s after t t′ o o′ e e′ r fourteen =
     same-in-as-many t t′ o o′ _ e (by-the-same way at first s after t t′ o o′ e e′ (λ one. absurd (omega (arith, one, fourteen)))) r
 
 pub no-room-stands : NoRoomStands
-no-room-stands = no-room-stands-with bareMarkerAt 0 0
+no-room-stands s after t t′ o o′ e e′ = no-room-stands-with bareMarkerAt 0 0 s after t t′ o o′ (e .by) (e′ .by)
 
 pub check-stands : CheckStands
 check-stands s after r r′ e e′ one =
-    let never : (n : ℕ) → judge s ≡ more n → ⊥ = λ n w. one (numbered (e ∙ ap answerWithRoom w)) in
-    single-check s r′ r (e′ ∙ ap answerWithRoom (judge-stands s after never)) e
+    let never : (n : ℕ) → judge s ≡ more n → ⊥ = λ n w. one (numbered (e .answer ∙ ap answerWithRoom w)) in
+    view-check-injective r′ r (e′ .answer ∙ ap answerWithRoom (judge-stands s after never) ∙ sym (e .answer))

@@ -49,7 +49,7 @@ use Rattle.markers.specs.Markers.{isOk}
 use Rattle.batches.specs.Placed.{placedContent, placedBatch, shownBatch}
 use Rattle.batches.specs.Reading.{tight}
 use Rattle.batches.specs.Promises.{Canonical, CanonicalPromise}
-use Rattle.batches.proofs.Canonical.{canonical-strict}
+use Rattle.batches.proofs.Canonical.{canonical-is-strict}
 use Rattle.batches.proofs.Complete.{complete}
 use Rattle.batches.proofs.Only.{exact-count}
 use Rattle.batches.proofs.Parts.{parts-stand}
@@ -192,15 +192,16 @@ stands-strictly {s} {p} {bs} (records rs) x g spans e many =
 
 -- ---- the answer
 
-never : (s : List ℕ) → (Canonical s → ⊥) → CanonicalPromise s false
-never s h = (λ e. absurd (let z : _≡_ {A = ℕ} 0 1 = cc in omega arith), λ c. absurd (h c))
-
 module _ (s : List ℕ) (fits : (i : ℕ) → Fits w8 (getD s i 0)) where
   bytes-are : Bytes s
   bytes-are i = fits i .fits
 
+  never : (Canonical s → ⊥) → CanonicalPromise s false
+  never h =
+      record { lent = bytes-are; says = (λ e. absurd (let z : _≡_ {A = ℕ} 0 1 = cc in omega arith), λ c. absurd (h c)) }
+
   strict-canonical : (b : Batch Record) → BatchBytes true s b → Canonical s
-  strict-canonical b g = canonical-strict s bytes-are .1 (b, g)
+  strict-canonical b g = canonical-is-strict s bytes-are .1 (b, g)
 
   -- the same batch, by the grammar
   accepted-all : (a : Accepted) → judge s ≡ accepted a → a .consumed ≡ length s → BatchBytes false s (shownBatch s a)
@@ -215,10 +216,10 @@ module _ (s : List ℕ) (fits : (i : ℕ) → Fits w8 (getD s i 0)) where
     judged x f = judged-by-opening bareMarkerAt s 0 0 ∙ ap (judgedFrom bareMarkerAt s 0 0) (sym e ∙ ap viewOpened f)
 
     pub canonical-more : (n : ℕ) → a ≡ Opened.MoreBytes n → CanonicalPromise s false
-    canonical-more n f = never s (λ c. more-not-accepted (sym (judged (Opened.MoreBytes n) f) ∙ c .judged))
+    canonical-more n f = never (λ c. more-not-accepted (sym (judged (Opened.MoreBytes n) f) ∙ c .judged))
 
     pub canonical-refused : (h : BatchFault) → a ≡ Opened.Refused h → CanonicalPromise s false
-    canonical-refused h f = never s (λ c. refused-not-accepted (sym (judged (Opened.Refused h) f) ∙ c .judged))
+    canonical-refused h f = never (λ c. refused-not-accepted (sym (judged (Opened.Refused h) f) ∙ c .judged))
 
     module _ (x : BatchFields) (isControl : Bool) (n : ℕ) (next : Cursor) (total : ℕ) (f : a ≡ Opened.Got x isControl n next total) where
       abbrev known : KnownAt
@@ -239,15 +240,15 @@ module _ (s : List ℕ) (fits : (i : ℕ) → Fits w8 (getD s i 0)) where
 
       pub canonical-longer : (total ≡ length s → ⊥) → CanonicalPromise s false
       canonical-longer h =
-          never s (λ c.
+          never (λ c.
           let (_, _, _, is) = judged-as (viewBatchFields x) 0 total inside (sym judged-inside ∙ c .judged) in
           h (sym (ap (λ (x : Accepted). x .consumed) is) ∙ c .whole))
 
       module _ (all : total ≡ length s) (t : Bool) (tested : t ≡ tight s) where
         pub canonical-loose : not t ≡ true → CanonicalPromise s false
         canonical-loose h =
-            never s (λ c.
-            let (b′, g) = canonical-strict s bytes-are .0 c in
+            never (λ c.
+            let (b′, g) = canonical-is-strict s bytes-are .0 c in
             let low = tested ∙ low-tight s (strict-low s b′ bytes-are g) in
             let z : _≡_ {A = Bool} true false = sym low ∙ not-true t h in
             let w : _≡_ {A = ℕ} 0 1 = cc in
@@ -287,7 +288,7 @@ module _ (s : List ℕ) (fits : (i : ℕ) → Fits w8 (getD s i 0)) where
           -- ---- a marker
 
           pub canonical-marker : isControl ≡ true → (r : Bool) → r ≡ isOk (bareMarkerAt s (next .at)) → CanonicalPromise s r
-          canonical-marker h r e′ = (λ t. stands (is-ok (sym e′ ∙ t)), λ c. e′ ∙ reads c)
+          canonical-marker h r e′ = record { lent = bytes-are; says = (λ t. stands (is-ok (sym e′ ∙ t)), λ c. e′ ∙ reads c) }
             where
               stands : (m : Marker) × (p : ℕ) × (bareMarkerAt s (next .at) ≡ ok m p) → Canonical s
               stands (m, p, i) =
@@ -303,7 +304,7 @@ module _ (s : List ℕ) (fits : (i : ℕ) → Fits w8 (getD s i 0)) where
           -- ---- records
 
           pub canonical-rows : isControl ≡ false → (r : Bool) → CanonicalRecordsPromise s (next .at) n r → CanonicalPromise s r
-          canonical-rows h r (told, tells) = (λ t. stands (told t), λ c. tells (strict c))
+          canonical-rows h r (told, tells) = record { lent = bytes-are; says = (λ t. stands (told t), λ c. tells (strict c)) }
             where
               stands : StandStrictly s (next .at) n → Canonical s
               stands (rs, x, many) =
@@ -317,7 +318,7 @@ module _ (s : List ℕ) (fits : (i : ℕ) → Fits w8 (getD s i 0)) where
 
               strict : Canonical s → StandStrictly s (next .at) n
               strict c =
-                  let (b′, g) = canonical-strict s bytes-are .0 c in
+                  let (b′, g) = canonical-is-strict s bytes-are .0 c in
                   let (k, p, i, is) = judged-read false h (placedBatch 0 0 g) (complete true s 0 0 (length s) s b′ (whole s) g .0) in
                   let (spans, j, w) = map-ok records (recordsAt s n (next .at)) i in
                   let (_, _, many, _) = records-sound s n (next .at) spans p bytes-are j in

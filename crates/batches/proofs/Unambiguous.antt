@@ -49,7 +49,7 @@ standing-refused (accepted b) r x =
 
 pub never : Never
 never strict s after bs rest b t o promise standing e g =
-    let (n, refusal) = standing-refused (judge s) (roomsOf t) (rw (ap (λ (x : Answer). x .number) (promise .answer)) at standing) in
+    let (n, refusal) = standing-refused (judge s) (roomsOf t) (rw (ap (λ (x : Answer). x .number) (promise .by .answer)) at standing) in
     let later = judge-stands s after (λ m is. more-not-refused (sym is ∙ refusal)) in
     let one = complete strict (bs ++ rest) 0 0 (length bs) bs b (in-front bs rest) g .0 in
     refused-not-accepted (sym refusal ∙ sym later ∙ ap judge e ∙ one)

@@ -14,21 +14,36 @@ use lib.ListN.{length}
 use Rattle.numbers.specs.Exactly.{Exactly}
 use Rattle.numbers.specs.Pick.{pick}
 use Rattle.primitives.specs.Step.{Step, ok, no}
+use Rattle.primitives.proofs.Steps.{ok-not-no, map-no}
 use Rattle.primitives.proofs.Refusing.{RefusedBy}
 use Rattle.records.specs.Format.{Record}
 use Rattle.records.specs.Judgement.{RecordSpans}
-use Rattle.asking.specs.Asked.{RowPlace}
+use Rattle.records.specs.Rows.{Tables}
+use Rattle.asking.specs.Asked.{RowPlace, recordsAsked}
+use Rattle.asking.specs.RowFaults.{AskedWrong}
 use Rattle.asking.proofs.Refusals.{RowFault}
+use Rattle.asking.proofs.RowFaults.{row-faults}
 use Rattle.writing.specs.Answers.{Answer, writes, refuses, viewWritten, given, refused, answerDue}
 use Rattle.writing.proofs.Outcomes.{numbers}
 use Rattle.layout.specs.Table.{uncounted}
-use Rattle.layout.specs.Batch.{Content, Batch}
+use Rattle.layout.specs.Batch.{Content, records, Batch}
 use Rattle.batches.specs.Answers.{viewFields}
-use Rattle.batches.specs.Writer.{batchLengthOf, writtenBatch, viewWanted, contentAsked, mostLength, batchGiven}
-use Rattle.batches.specs.Rewriting.{Request, batchAsked, RowsRefusedBy, AsksLength, WriteNumbers}
+use Rattle.batches.specs.Writer.{batchLengthOf, writtenBatch, Wanted, marker, rows, viewWanted, contentAsked, mostLength, batchGiven}
+use Rattle.batches.specs.Request.{Request}
+use Rattle.batches.specs.Rewriting.{batchAsked, RowsRefusedBy, AsksLength, WriteNumbers}
 use Rattle.batches.proofs.Encodes.{content-length}
 use Rattle.batches.proofs.Giving.{written-length}
 use Rattle.batches.proofs.Written.{content-refused}
+
+-- ---- what is refused by a wrong row
+
+module _ (t : Tables) (s : List ℕ) where
+  row-wrong : (w : Wanted) {n : ℕ} → contentAsked w t s ≡ no n → (count : ℕ) × (w ≡ rows count) × AskedWrong t s 0 count n
+  row-wrong (marker m) e = ok-not-no e
+  row-wrong (rows count) {n} e = (count, refl, row-faults t s 0 count n .0 (map-no records (recordsAsked t s 0 count) e))
+
+  wrong-row : (w : Wanted) (count : ℕ) {n : ℕ} → w ≡ rows count → AskedWrong t s 0 count n → contentAsked w t s ≡ no n
+  wrong-row w count {n} e x = rw (e, row-faults t s 0 count n .1 x)
 
 -- ---- what is answered of a batch of some length
 
@@ -81,8 +96,10 @@ module _ (q : Request) (out : List ℕ) where
       ]
   told-by e (no n) f (l, h) =
       elim (ℕ-discrete n 21) [
-        | yes g ↦ (21, by-row (e, f ∙ ap no g))
-        | Dec.no g ↦ let g′ : n ≡ 22 = omega arith in (22, by-key (e, f ∙ ap no g′))
+        | yes g ↦ (21, by-row (e, row-wrong (q .tables) (q .source) (viewWanted (q .kind)) (f ∙ ap no g)))
+        | Dec.no g ↦
+            let g′ : n ≡ 22 = omega arith in
+            (22, by-key (e, row-wrong (q .tables) (q .source) (viewWanted (q .kind)) (f ∙ ap no g′)))
       ]
 
   told : (k : ℕ) × Told q out k
@@ -95,7 +112,8 @@ module _ (q : Request) (out : List ℕ) where
   -- and it gives the answer
   refused-due : {k : ℕ} → RowsRefusedBy q k → due ≡ refuses k
   unfolding batchGiven
-  refused-due (e, f) = rw (eq-eqb (q .codec) 0 e, f) refl
+  refused-due (e, (count, is, x)) =
+      rw (eq-eqb (q .codec) 0 e, wrong-row (q .tables) (q .source) (viewWanted (q .kind)) count is x) refl
 
   length-due : {n : ℕ} → AsksLength q n → due ≡ byLengths (leb n mostLength) (leb (uncounted + n) (length out)) (uncounted + n)
   unfolding batchGiven
@@ -159,7 +177,7 @@ module _ {q : Request} {out : List ℕ} where
 pub write-numbers : WriteNumbers
 write-numbers q out o w =
     let a : Answer = viewWritten (o .result) in
-    let e = w .answer in
+    let e = w .by .answer in
     record {
       twenty = exactly q out a e codec-told by-codec;
       twenty-one = exactly q out a e row-told by-row;

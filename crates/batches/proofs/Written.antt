@@ -27,13 +27,14 @@ use Rattle.writing.proofs.Outcomes.{Numbered, numbers, put}
 use Rattle.layout.specs.Batch.{Fields, Content, records}
 use Rattle.batches.specs.Answers.{viewFields}
 use Rattle.batches.specs.Writer.{batchLengthOf, writtenBatch, Wanted, marker, rows, viewWanted, contentAsked, mostLength, batchGivenBy, batchGiven}
-use Rattle.batches.specs.Rewriting.{Request, WrittenAs, Written, WriteUntouched, WriteMeasures, MarkerAlone}
+use Rattle.batches.specs.Request.{Request}
+use Rattle.batches.specs.Rewriting.{WrittenAs, Written, WriteUntouched, WriteMeasures, MarkerAlone}
 use Rattle.batches.proofs.Encodes.{shows}
 use Rattle.batches.proofs.Given.{given-for, given-encodes}
 
 -- ---- a refusal has a number of its own
 
-pick-numbered : (t : Bool) (g : Given) (n : ℕ) → Numbered g → 0 < n → Numbered (pick t g (refused n))
+pub pick-numbered : (t : Bool) (g : Given) (n : ℕ) → Numbered g → 0 < n → Numbered (pick t g (refused n))
 pick-numbered true g n w h = w
 pick-numbered false g n w h = h
 
@@ -47,7 +48,7 @@ pub content-refused : (wanted : Wanted) (t : Tables) (s : List ℕ) → RefusedB
 content-refused (marker m) t s = tt
 content-refused (rows n) t s = map-refused RowFault records (recordsAsked t s 0 n) (records-refused t s 0 n)
 
-given-numbered : (x : Fields) (codec : ℕ) (wanted : Wanted) (t : Tables) (s : List ℕ) → Numbered (batchGiven x codec wanted t s)
+pub given-numbered : (x : Fields) (codec : ℕ) (wanted : Wanted) (t : Tables) (s : List ℕ) → Numbered (batchGiven x codec wanted t s)
 unfolding batchGiven
 given-numbered x codec wanted t s =
     pick-numbered (eqb codec 0) (batchGivenBy x s (contentAsked wanted t s)) 20
@@ -56,11 +57,11 @@ given-numbered x codec wanted t s =
 -- ---- what was given
 
 pub written : Written
-written q out o n sensible promise e =
+written q out o n promise e =
     let x = viewFields (q .batch) in
     let wanted = viewWanted (q .kind) in
     let p = put (batchGiven x (q .codec) wanted (q .tables) (q .source)) (given-numbered x (q .codec) wanted (q .tables) (q .source)) 0 n out o
-    (ap viewWritten (sym e) ∙ promise .answer) (promise .output) in
+    (ap viewWritten (sym e) ∙ promise .by .answer) (promise .by .output) in
     let g = given-for x (q .codec) wanted (q .tables) (q .source) (p .is) in
     record {
       bytes = p .bytes;
@@ -68,7 +69,7 @@ written q out o n sensible promise e =
       output-is = p .output-is ∙ ap (λ (k : ℕ). p .bytes ++ drop k out) (zero-add (length (p .bytes)) ∙ p .length-is);
       content = g .content;
       asked = record { place = g .place; is = g .is };
-      encodes = given-encodes x wanted (q .tables) (q .source) (sensible .fields) (sensible .numbers) (sensible .source) g;
+      encodes = given-encodes x wanted (q .tables) (q .source) (promise .handed .fields) (promise .handed .source) g;
     }
 
 -- the output begins with it
@@ -89,7 +90,7 @@ untouched (given bs) out o e h = untouched-by (leb (0 + length bs) (length out))
 untouched (refused n) out o e h = (e .output, ap (λ (x : Answer). x .bytes) (e .answer))
 
 pub write-untouched : WriteUntouched
-write-untouched q out o e h = untouched _ out o e h
+write-untouched q out o e h = untouched _ out o (e .by) h
 
 -- ---- writing is measuring
 
@@ -112,7 +113,7 @@ measures (given bs) out o r e f = measures-by (leb (0 + length bs) (length out))
 measures (refused n) out o r e f = inl (single-written _ (o .result) r (e .answer) f)
 
 pub write-measures : WriteMeasures
-write-measures q out o r e f = measures _ out o r e f
+write-measures q out o r e f = measures _ out o r (e .by) f
 
 -- ---- markers
 

@@ -2,7 +2,7 @@
 -- under the statement's name in small letters: `stands : Stands`.
 --
 -- The words that are used: `judge` (crates/opening/specs/Judgement.antt) is what document 01 answers where rows are
--- enough, which is demand 2's answer (Statements.antt joins it to Kafka's format). `ReadPromise` (Promises.antt) is
+-- enough, which is demand 2's answer (Demand2.antt says it by Kafka's format alone). `ReadPromise` (Promises.antt) is
 -- what `RecordBatch::read` promises on some bytes and some tables: its result, and both tables at exit. A result says
 -- document 01's number and the values named with it (`viewRead`, Answers.antt). A longer beginning is `s ++ after`.
 --
@@ -18,12 +18,15 @@ use mathlib.Core.List.{List, _++_}
 use lib.IntN.{pos}
 use lib.ListN.{length, take}
 use Rattle.numbers.specs.Exactly.{Exactly}
+use Rattle.primitives.specs.Stands.{Encoding}
+use Rattle.records.specs.Format.{Record}
 use Rattle.records.specs.Judgement.{RecordSpans}
 use Rattle.records.specs.Rows.{Tables}
 use Rattle.writing.specs.declared.Written.{Written}
 use Rattle.writing.specs.Promises.{WriteOutcome}
 use Rattle.layout.specs.Table.{table}
-use Rattle.layout.specs.Batch.{Content}
+use Rattle.layout.specs.Batch.{Content, Batch}
+use Rattle.layout.specs.Format.{BatchBytes}
 use Rattle.opening.specs.Judgement.{more, refused, accepted, Accepted, Judgement, numberIn, Control, judgeWith, judge}
 use Rattle.batches.specs.declared.BatchCheck.{BatchCheck}
 use Rattle.batches.specs.declared.BatchRead.{BatchRead}
@@ -31,10 +34,22 @@ use Rattle.batches.specs.Placed.{shownContent}
 use Rattle.batches.specs.Answers.{viewFields, viewCheck, viewRead, recordsIn, headersOf, acceptedAs, answerWithRoom, roomsOf, hasRoom, stored}
 use Rattle.batches.specs.Promises.{CheckPromise, ReadOutcome, ReadBy, ReadPromise}
 use Rattle.batches.specs.Statements.{Within}
-use Rattle.batches.specs.Rewriting.{Request, Writes, Sensible, Asks}
+use Rattle.batches.specs.Request.{Request}
+use Rattle.batches.specs.Rewriting.{Writes, Asks}
+use Rattle.batches.specs.Demand2.{spansOf, Enough, DemandTwo}
 
 abbrev Judging : Type 0
 Judging = List ℕ → Judgement
+
+-- what is promised of reading, on some bytes and some tables
+abbrev Reading : Type 1
+Reading = List ℕ → Tables → ReadOutcome → Type 0
+
+abbrev judgingWith : Control → ℕ → ℕ → Judging
+judgingWith way at first s = judgeWith way s at first
+
+abbrev readingWith : Control → ℕ → ℕ → Reading
+readingWith way at first s = ReadBy (judgeWith way s at first)
 
 abbrev number : ReadOutcome → ℕ
 number o = viewRead (o .result) .number
@@ -61,16 +76,21 @@ pub record Same (j : Judgement) (t t′ : Tables) (o o′ : ReadOutcome) : Type 
   pub tables : o .tables ≡ storedBy j t
   pub tables′ : o′ .tables ≡ storedBy j t′
 
-abbrev StandsBy : Judging → Type 0
-StandsBy judging =
-    (s after : List ℕ) (t t′ : Tables) (o o′ : ReadOutcome) → ReadBy (judging s) t o → ReadBy (judging (s ++ after)) t′ o′ → AtLeast t t′
+abbrev StandsBy : Judging → Reading → Type 0
+StandsBy judging Reads =
+    (s after : List ℕ) (t t′ : Tables) (o o′ : ReadOutcome) → Reads s t o → Reads (s ++ after) t′ o′ → AtLeast t t′
     → (number o ≡ 1 → ⊥) → (number o ≡ 14 → ⊥) → Same (judging s) t t′ o o′
 
 abbrev pub Stands : Type 0
-Stands = StandsBy judge
+Stands = StandsBy judge ReadPromise
 
 abbrev pub StandsWith : Type 0
-StandsWith = (way : Control) (at first : ℕ) → StandsBy (λ s. judgeWith way s at first)
+StandsWith = (way : Control) (at first : ℕ) → StandsBy (judgingWith way at first) (readingWith way at first)
+
+-- And it is demand 2's, by the format alone: a batch stands there, or the first fault has that number (Demand2.antt).
+abbrev pub StandsByFormat : Type 0
+StandsByFormat =
+    (s : List ℕ) (t : Tables) (o : ReadOutcome) → ReadPromise s t o → (number o ≡ 1 → ⊥) → (number o ≡ 14 → ⊥) → DemandTwo s t o
 
 -- The same of the judgement itself: what is not "more bytes" is not changed by any byte that follows.
 abbrev JudgeStandsBy : Judging → Type 0
@@ -80,7 +100,7 @@ abbrev pub JudgeStands : Type 0
 JudgeStands = JudgeStandsBy judge
 
 abbrev pub JudgeStandsWith : Type 0
-JudgeStandsWith = (way : Control) (at first : ℕ) → JudgeStandsBy (λ s. judgeWith way s at first)
+JudgeStandsWith = (way : Control) (at first : ℕ) → JudgeStandsBy (judgingWith way at first)
 
 -- And of the check, which is lent no tables.
 abbrev pub CheckStands : Type 0
@@ -88,29 +108,29 @@ CheckStands =
     (s after : List ℕ) (r r′ : BatchCheck) → CheckPromise s r → CheckPromise (s ++ after) r′ → (viewCheck r .number ≡ 1 → ⊥) → r′ ≡ r
 
 -- "No room" stands too where the tables have as many rows.
-abbrev NoRoomStandsBy : Judging → Type 0
-NoRoomStandsBy judging =
-    (s after : List ℕ) (t t′ : Tables) (o o′ : ReadOutcome) → ReadBy (judging s) t o → ReadBy (judging (s ++ after)) t′ o′
+abbrev NoRoomStandsBy : Reading → Type 0
+NoRoomStandsBy Reads =
+    (s after : List ℕ) (t t′ : Tables) (o o′ : ReadOutcome) → Reads s t o → Reads (s ++ after) t′ o′
     → roomsOf t′ ≡ roomsOf t → number o ≡ 14 → o′ .result ≡ o .result
 
 abbrev pub NoRoomStands : Type 0
-NoRoomStands = NoRoomStandsBy judge
+NoRoomStands = NoRoomStandsBy ReadPromise
 
 abbrev pub NoRoomStandsWith : Type 0
-NoRoomStandsWith = (way : Control) (at first : ℕ) → NoRoomStandsBy (λ s. judgeWith way s at first)
+NoRoomStandsWith = (way : Control) (at first : ℕ) → NoRoomStandsBy (readingWith way at first)
 
 -- Document 01: "Numbers 2 to 13 never depend on room. Every refusal changes no table". An answer 1 to 13 is the same
 -- for every pair of tables, smaller ones too, and leaves them as they are.
-abbrev RoomFreeBy : Judging → Type 0
-RoomFreeBy judging =
-    (s : List ℕ) (t t′ : Tables) (o o′ : ReadOutcome) → ReadBy (judging s) t o → ReadBy (judging s) t′ o′
+abbrev RoomFreeBy : Reading → Type 0
+RoomFreeBy Reads =
+    (s : List ℕ) (t t′ : Tables) (o o′ : ReadOutcome) → Reads s t o → Reads s t′ o′
     → (number o ≡ 0 → ⊥) → (number o ≡ 14 → ⊥) → (o′ .result ≡ o .result) × (o .tables ≡ t) × (o′ .tables ≡ t′)
 
 abbrev pub RoomFree : Type 0
-RoomFree = RoomFreeBy judge
+RoomFree = RoomFreeBy ReadPromise
 
 abbrev pub RoomFreeWith : Type 0
-RoomFreeWith = (way : Control) (at first : ℕ) → RoomFreeBy (λ s. judgeWith way s at first)
+RoomFreeWith = (way : Control) (at first : ℕ) → RoomFreeBy (readingWith way at first)
 
 -- ---- ""More bytes" comes only where document 01's lengths say so"
 
@@ -127,7 +147,7 @@ MoreBytes = (s : List ℕ) (t : Tables) (o : ReadOutcome) (n : ℕ) → ReadProm
 
 abbrev pub MoreBytesWith : Type 0
 MoreBytesWith =
-    (way : Control) → Within way → (at first : ℕ) (s : List ℕ) (t : Tables) (o : ReadOutcome) (n : ℕ) → ReadBy (judgeWith way s at first) t o
+    (way : Control) → Within way → (at first : ℕ) (s : List ℕ) (t : Tables) (o : ReadOutcome) (n : ℕ) → readingWith way at first s t o
     → Exactly (o .result ≡ BatchRead.MoreBytes n) (Lacks s at n)
 
 -- ---- ""no room" only where demand 2 accepts and a table is short, naming the rows needed."
@@ -139,6 +159,14 @@ NoRoom =
     ((b : Accepted) × (judge s ≡ accepted b) × (recordsIn (b .content) ≡ n) × (headersOf (b .content) ≡ m)
     × ((length (t .records) / 8 < n) ⊎ (length (t .headers) / 4 < m)))
 
+-- The same by the format alone: a batch stands there, and a table is short of its rows.
+abbrev pub NoRoomByFormat : Type 0
+NoRoomByFormat =
+    (s : List ℕ) (t : Tables) (o : ReadOutcome) (n m : ℕ) → ReadPromise s t o
+    → Exactly (o .result ≡ BatchRead.NoRoom n m)
+    ((b : Batch Record) × (q : ℕ) × (e : Encoding (BatchBytes false) s 0 q b) × (recordsIn (spansOf (e .encodes)) ≡ n)
+    × (headersOf (spansOf (e .encodes)) ≡ m) × ((length (t .records) / 8 < n) ⊎ (length (t .headers) / 4 < m)))
+
 abbrev NoRoomBy : Judging → Type 0
 NoRoomBy judging =
     (s : List ℕ) (t : Tables) (o : ReadOutcome) (n m : ℕ) → ReadBy (judging s) t o
@@ -147,15 +175,10 @@ NoRoomBy judging =
     × (hasRoom (b .content) (b .firstHeader) (roomsOf t) ≡ false))
 
 abbrev pub NoRoomWith : Type 0
-NoRoomWith = (way : Control) → Within way → (at first : ℕ) → NoRoomBy (λ s. judgeWith way s at first)
+NoRoomWith = (way : Control) → Within way → (at first : ℕ) → NoRoomBy (judgingWith way at first)
 
 -- ---- "Each batch the writer accepts reads back, rows enough being lent, from its bytes with anything after them as the
 -- same batch."
-
--- rows enough for what was asked for
-pub record Enough (c : Content RecordSpans) (t : Tables) : Type 0 where
-  pub records : recordsIn c ≤ length (t .records) / 8
-  pub headers : headersOf c ≤ length (t .headers) / 4
 
 -- What is read from the bytes s: the fields that were handed in, as many bytes as were written, and records (or a
 -- marker) that show in s what those asked for show in the source: equal deltas, nulls and bytes. Their rows stand in
@@ -169,9 +192,9 @@ pub record SameBatch (q : Request) (c : Content RecordSpans) (n : ℕ) (s : List
   pub consumed : read .consumed ≡ n
 
 -- q is what is handed to the writer, o its outcome on an output, o′ the reader's on the bytes written and any after
--- them. (The writer's numbers are of their width, and its source is of bytes: `Sensible`, Rewriting.antt.)
+-- them.
 abbrev pub ReadsBack : Type 0
 ReadsBack =
     (q : Request) (c : Content RecordSpans) (out : List ℕ) (o : WriteOutcome) (n : ℕ) (after : List ℕ) (t : Tables) (o′ : ReadOutcome)
-    → Sensible q → Writes q out o → o .result ≡ Written.Bytes n → Asks q c → ReadPromise (take n (o .output) ++ after) t o′ → Enough c t
+    → Writes q out o → o .result ≡ Written.Bytes n → Asks q c → ReadPromise (take n (o .output) ++ after) t o′ → Enough c t
     → SameBatch q c n (take n (o .output) ++ after) t o′

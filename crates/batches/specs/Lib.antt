@@ -1,8 +1,13 @@
 pub mod Placed
 pub mod Answers
 pub mod Writer
+pub mod Filled
+pub mod Request
 pub mod Promises
 pub mod Statements
+pub mod Faults
+pub mod FirstFaults
 pub mod Rewriting
+pub mod Demand2
 pub mod Demand3
 pub mod Reading

@@ -1,5 +1,6 @@
 -- What each public function promises of its result and of what it is lent to change, the reader's tables and the
--- writer's output, for every input. All else is lent to be read: no function here can change it.
+-- writer's output, for every input. All else is lent to be read: no function here can change it. That lent bytes are
+-- bytes, and numbers handed in of their width, is promised too, so that no law about a function has to ask it.
 use Prim.Native.Nat.{ℕ}
 use mathlib.Core.Path.{_≡_}
 use mathlib.Core.Bool.{Bool, true}
@@ -7,6 +8,7 @@ use mathlib.Core.List.{List}
 use lib.IntN.{ℤ}
 use lib.ListN.{length}
 use denote.Ref.{RefT, now}
+use Rattle.numbers.specs.Bytes.{Bytes}
 use Rattle.numbers.specs.Exactly.{Exactly}
 use Rattle.records.specs.Rows.{Tables}
 use Rattle.reading.specs.Promises.{ReadOutcome as RecordsOutcome, ReadRecordsPromise}
@@ -24,14 +26,16 @@ use Rattle.batches.specs.declared.BatchCheck.{BatchCheck}
 use Rattle.batches.specs.declared.BatchRead.{BatchRead}
 use Rattle.batches.specs.Writer.{viewWanted, batchGiven, ownTables, wantedOf}
 use Rattle.batches.specs.Answers.{viewFields, viewCheck, viewRead, answerWithRoom, roomsOf, answerOf, tablesOf}
+use Rattle.batches.specs.Request.{Sensible}
 
 -- RecordBatch::total_size, of any batchLength
 abbrev pub TotalSizePromise : ℤ → ℤ → Type 0
 TotalSizePromise batchLength r = Layout.TotalSizePromise batchLength r
 
 -- RecordBatch::check, on bytes s
-abbrev pub CheckPromise : List ℕ → BatchCheck → Type 0
-CheckPromise s r = viewCheck r ≡ answerWithRoom (judge s)
+pub record CheckPromise (s : List ℕ) (r : BatchCheck) : Type 0 where
+  pub lent : Bytes s
+  pub answer : viewCheck r ≡ answerWithRoom (judge s)
 
 -- the result of RecordBatch::read, with both tables at exit
 pub record ReadOutcome : Type 0 where
@@ -44,8 +48,9 @@ pub record ReadBy (j : Judgement) (t : Tables) (o : ReadOutcome) : Type 0 where
   pub tables : o .tables ≡ tablesOf j t
 
 -- RecordBatch::read, on bytes s and tables t
-abbrev pub ReadPromise : List ℕ → Tables → ReadOutcome → Type 0
-ReadPromise s t o = ReadBy (judge s) t o
+pub record ReadPromise (s : List ℕ) (t : Tables) (o : ReadOutcome) : Type 0 where
+  pub lent : Bytes s
+  pub by : ReadBy (judge s) t o
 
 -- BodyReader::new, of a lent body and a place: the reader holds that very body, and that place
 abbrev pub BodyReaderPromise : RefT (List ℕ) → ℕ → BodyReader → Type 0
@@ -74,8 +79,10 @@ abbrev pub MeasurePromise : RecordBatch → ℕ → ControlBatchOrRecords → Ta
 MeasurePromise b codec kind t s r = viewWritten r ≡ measured (batchGiven (viewFields b) codec (viewWanted kind) t s)
 
 -- RecordBatch::write, the same into an output
-abbrev pub WritePromise : RecordBatch → ℕ → ControlBatchOrRecords → Tables → List ℕ → List ℕ → WriteOutcome → Type 0
-WritePromise b codec kind t s out o = WriteBy (batchGiven (viewFields b) codec (viewWanted kind) t s) 0 out o
+pub record WritePromise (b : RecordBatch) (codec : ℕ) (kind : ControlBatchOrRecords) (t : Tables) (s out : List ℕ) (o : WriteOutcome)
+    : Type 0 where
+  pub handed : Sensible (record { batch = b; codec = codec; kind = kind; tables = t; source = s })
+  pub by : WriteBy (batchGiven (viewFields b) codec (viewWanted kind) t s) 0 out o
 
 -- Document 01, the canonical check: the bytes, all of them, are one batch that is accepted, and equal what the writer
 -- gives for it, from its own rows and these bytes.
@@ -86,5 +93,6 @@ pub record Canonical (s : List ℕ) : Type 0 where
   pub rewritten : batchGiven (batch .fields) 0 (wantedOf (batch .content)) (ownTables (batch .content)) s ≡ given s
 
 -- RecordBatch::is_canonical, on bytes s
-abbrev pub CanonicalPromise : List ℕ → Bool → Type 0
-CanonicalPromise s r = Exactly (r ≡ true) (Canonical s)
+pub record CanonicalPromise (s : List ℕ) (r : Bool) : Type 0 where
+  pub lent : Bytes s
+  pub says : Exactly (r ≡ true) (Canonical s)

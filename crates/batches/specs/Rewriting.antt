@@ -6,17 +6,15 @@ use mathlib.Core.Path.{_≡_}
 use mathlib.Core.Bool.{Bool, true}
 use mathlib.Core.Logic.{_⊎_}
 use mathlib.Core.List.{List, _++_}
-use lib.IntN.{ℤ, pos}
-use lib.ListN.{length, take, drop, getD}
-use Rattle.numbers.specs.Bytes.{Bytes}
+use lib.ListN.{length, take, drop}
 use Rattle.numbers.specs.Exactly.{Exactly}
-use Rattle.numbers.specs.Format.{InBits}
-use Rattle.primitives.specs.Step.{ok, no}
+use Rattle.primitives.specs.Step.{ok}
 use Rattle.records.specs.Format.{Record}
 use Rattle.records.specs.Judgement.{RecordSpans}
 use Rattle.records.specs.Rows.{Tables}
 use Rattle.asking.specs.declared.WriteFault.{WriteFault}
 use Rattle.asking.specs.Asked.{RowPlace}
+use Rattle.asking.specs.RowFaults.{AskedWrong}
 use Rattle.writing.specs.declared.Written.{Written as WrittenAnswer}
 use Rattle.writing.specs.Answers.{Answer, given, viewWritten}
 use Rattle.writing.specs.Promises.{WriteOutcome}
@@ -28,45 +26,17 @@ use Rattle.batches.specs.declared.ControlBatchOrRecords.{ControlBatchOrR
 use Rattle.batches.specs.declared.BatchRead.{BatchRead}
 use Rattle.batches.specs.Placed.{shownContent}
 use Rattle.batches.specs.Answers.{viewFields}
-use Rattle.batches.specs.Writer.{batchLengthOf, marker, viewWanted, contentAsked, mostLength, batchGiven}
-use Rattle.batches.specs.Promises.{ReadOutcome, ReadPromise, MeasurePromise, WritePromise, Canonical, CanonicalPromise}
+use Rattle.batches.specs.Request.{Request}
+use Rattle.batches.specs.Writer.{batchLengthOf, marker, rows, viewWanted, contentAsked, mostLength, batchGiven}
+use Rattle.batches.specs.Promises.{ReadOutcome, ReadPromise, MeasurePromise, WritePromise, CanonicalPromise}
 
--- ---- numbers are of their width
-
--- Of a value of the machine's types this is so: each field is an integer of its bytes, each number of a table one of 64
--- bits, each element of the source a byte.
-pub record InWidth (x : Fields) : Type 0 where
-  pub baseOffset : InBits 64 (x .baseOffset)
-  pub partitionLeaderEpoch : InBits 32 (x .partitionLeaderEpoch)
-  pub lastOffsetDelta : InBits 32 (x .lastOffsetDelta)
-  pub firstTimestamp : InBits 64 (x .firstTimestamp)
-  pub maxTimestamp : InBits 64 (x .maxTimestamp)
-  pub producerId : InBits 64 (x .producerId)
-  pub producerEpoch : InBits 16 (x .producerEpoch)
-  pub baseSequence : InBits 32 (x .baseSequence)
-
-abbrev pub Numbers64 : List ℤ → Type 0
-Numbers64 t = (i : ℕ) → InBits 64 (getD t i (pos 0))
-
--- ---- what is handed to the writer
-
-pub record Request : Type 0 where
-  pub batch : RecordBatch
-  pub codec : ℕ
-  pub kind : ControlBatchOrRecords
-  pub tables : Tables
-  pub source : List ℕ
+-- ---- what is asked of the writer
 
 abbrev pub Measures : Request → WrittenAnswer → Type 0
 Measures q r = MeasurePromise (q .batch) (q .codec) (q .kind) (q .tables) (q .source) r
 
 abbrev pub Writes : Request → List ℕ → WriteOutcome → Type 0
 Writes q out o = WritePromise (q .batch) (q .codec) (q .kind) (q .tables) (q .source) out o
-
-pub record Sensible (q : Request) : Type 0 where
-  pub fields : InWidth (viewFields (q .batch))
-  pub numbers : Numbers64 (q .tables .records)
-  pub source : Bytes (q .source)
 
 -- what the rows ask for: a marker, or records whose spans lie in the source
 pub record Asks (q : Request) (c : Content RecordSpans) : Type 0 where
@@ -80,9 +50,9 @@ batchAsked q c = record { fields = viewFields (q .batch); content = shownContent
 -- ---- the writer's numbers
 
 module _ (q : Request) where
-  -- codec 0, and the rows are refused by a number
+  -- codec 0, so many records, and the first of their rows that is wrong is wrong by a number
   abbrev pub RowsRefusedBy : ℕ → Type 0
-  RowsRefusedBy n = (q .codec ≡ 0) × (contentAsked (viewWanted (q .kind)) (q .tables) (q .source) ≡ no n)
+  RowsRefusedBy n = (q .codec ≡ 0) × ((count : ℕ) × (viewWanted (q .kind) ≡ rows count) × AskedWrong (q .tables) (q .source) 0 count n)
 
   -- codec 0, and the rows ask for a batch of such a batchLength
   pub record AsksLength (n : ℕ) : Type 0 where
@@ -127,8 +97,7 @@ pub record WrittenAs (q : Request) (out : List ℕ) (o : WriteOutcome) (n : ℕ)
 
 abbrev pub Written : Type 0
 Written =
-    (q : Request) (out : List ℕ) (o : WriteOutcome) (n : ℕ) → Sensible q → Writes q out o → o .result ≡ WrittenAnswer.Bytes n
-    → WrittenAs q out o n
+    (q : Request) (out : List ℕ) (o : WriteOutcome) (n : ℕ) → Writes q out o → o .result ≡ WrittenAnswer.Bytes n → WrittenAs q out o n
 
 -- Document 01: a refusal changes none of the output, and returns length 0.
 abbrev pub WriteUntouched : Type 0
@@ -156,25 +125,25 @@ MarkerAlone =
 abbrev pub Rewritable : Type 0
 Rewritable =
     (s : List ℕ) (t : Tables) (o : ReadOutcome) (b : RecordBatch) (kind : ControlBatchOrRecords) (headers consumed : ℕ) (r : WrittenAnswer)
-    → Bytes s → ReadPromise s t o → o .result ≡ BatchRead.Accepted b kind headers consumed
+    → ReadPromise s t o → o .result ≡ BatchRead.Accepted b kind headers consumed
     → Measures (record { batch = b; codec = 0; kind = kind; tables = o .tables; source = s }) r
     → (n : ℕ) × (r ≡ WrittenAnswer.Bytes n) × (n ≤ consumed)
 
--- The canonical bytes are exactly the strict grammar's.
+-- The canonical check says yes exactly to the strict grammar's bytes.
 abbrev pub CanonicalStrict : Type 0
-CanonicalStrict = (s : List ℕ) → Bytes s → Exactly (Canonical s) ((b : Batch Record) × BatchBytes true s b)
+CanonicalStrict = (s : List ℕ) (r : Bool) → CanonicalPromise s r → Exactly (r ≡ true) ((b : Batch Record) × BatchBytes true s b)
 
 -- What the writer gives is canonical.
 abbrev pub WrittenCanonical : Type 0
 WrittenCanonical =
-    (q : Request) (out : List ℕ) (o : WriteOutcome) (n : ℕ) (r : Bool) → Sensible q → Writes q out o
+    (q : Request) (out : List ℕ) (o : WriteOutcome) (n : ℕ) (r : Bool) → Writes q out o
     → o .result ≡ WrittenAnswer.Bytes n → CanonicalPromise (take n (o .output)) r → r ≡ true
 
 -- A canonical batch that is read and written again is itself.
 abbrev pub CanonicalAgain : Type 0
 CanonicalAgain =
     (s : List ℕ) (t : Tables) (o : ReadOutcome) (b : RecordBatch) (kind : ControlBatchOrRecords) (headers consumed : ℕ)
-    (out : List ℕ) (w : WriteOutcome) → Bytes s → CanonicalPromise s true → ReadPromise s t o
+    (out : List ℕ) (w : WriteOutcome) → CanonicalPromise s true → ReadPromise s t o
     → o .result ≡ BatchRead.Accepted b kind headers consumed → length s ≤ length out
     → Writes (record { batch = b; codec = 0; kind = kind; tables = o .tables; source = s }) out w
     → (w .result ≡ WrittenAnswer.Bytes (length s)) × (w .output ≡ s ++ drop (length s) out)
@@ -184,10 +153,9 @@ CanonicalAgain =
 -- Two different batches never give the same bytes.
 abbrev pub WrittenApart : Type 0
 WrittenApart =
-    (q q′ : Request) (c c′ : Content RecordSpans) (bs : List ℕ) → Sensible q → Sensible q′ → Asks q c → Asks q′ c′
-    → batchGiven (viewFields (q .batch)) (q .codec) (viewWanted (q .kind)) (q .tables) (q .source) ≡ given bs
-    → batchGiven (viewFields (q′ .batch)) (q′ .codec) (viewWanted (q′ .kind)) (q′ .tables) (q′ .source) ≡ given bs
-    → batchAsked q c ≡ batchAsked q′ c′
+    (q q′ : Request) (out out′ : List ℕ) (o o′ : WriteOutcome) (n n′ : ℕ) (c c′ : Content RecordSpans) → Writes q out o → Writes q′ out′ o′
+    → o .result ≡ WrittenAnswer.Bytes n → o′ .result ≡ WrittenAnswer.Bytes n′ → Asks q c → Asks q′ c′
+    → take n (o .output) ≡ take n′ (o′ .output) → batchAsked q c ≡ batchAsked q′ c′
 
 -- Of all encodings of a batch the writer's is the shortest, and it is the only one of the strict grammar.
 abbrev pub WrittenShortest : Type 0

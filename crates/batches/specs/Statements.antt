@@ -105,30 +105,27 @@ module _ (s : List ℕ) where
   abbrev pub CountBelow : Type 0
   CountBelow = (k : ℕ) × (numberIn (table .count) s 0 ≡ negsuc (suc k))
 
--- Numbers 2 to 7 are given exactly where document 01 says, over the table of fixed fields.
-pub record NumbersOf (s : List ℕ) : Type 0 where
+-- document 01, Reader's numbers, 2 to 7, over the table of fixed fields
+pub data FrontWrong (s : List ℕ) : ℕ → Type 0 where
   -- batchLength below 9, negatives too
-  pub two : Exactly (judge s ≡ refused 2) ((12 ≤ length s) × Below (numberIn (table .batchLength) s 0) 9)
+  short : 12 ≤ length s → Below (numberIn (table .batchLength) s 0) 9 → FrontWrong s 2
   -- magic not 2
-  pub three :
-      Exactly (judge s ≡ refused 3)
-      ((17 ≤ length s) × (Below (numberIn (table .batchLength) s 0) 9 → ⊥) × (numberIn (table .magic) s 0 ≡ pos 2 → ⊥))
+  magic : 17 ≤ length s → (Below (numberIn (table .batchLength) s 0) 9 → ⊥) → (numberIn (table .magic) s 0 ≡ pos 2 → ⊥) → FrontWrong s 3
   -- checksum differs
-  pub four : Exactly (judge s ≡ refused 4) ((n : ℕ) × Whole s n × (unsignedIn (table .crc) s 0 ≡ sum s n → ⊥))
+  checksum : {n : ℕ} → Whole s n → (unsignedIn (table .crc) s 0 ≡ sum s n → ⊥) → FrontWrong s 4
   -- codec 5, 6 or 7
-  pub five : Exactly (judge s ≡ refused 5) ((n : ℕ) × Checked s n × (11 ≤ n) × (5 ≤ codec s))
+  unknown : {n : ℕ} → Checked s n → 11 ≤ n → 5 ≤ codec s → FrontWrong s 5
   -- codec 1 to 4
-  pub six :
-      Exactly (judge s ≡ refused 6)
-      ((n : ℕ) × Checked s n × (49 ≤ n) × (1 ≤ codec s) × (codec s ≤ 4) × ((m : ℕ) × CountIs s m))
-  -- count below -1; control batch with a count other than 1
-  pub seven :
-      Exactly (judge s ≡ refused 7)
-      ((n : ℕ) × Checked s n × (49 ≤ n) × (codec s ≤ 4)
-      × (CountBelow s ⊎ ((codec s ≡ 0) × (attributesIn s 0 .control ≡ true) × ((m : ℕ) × CountIs s m × (m ≡ 1 → ⊥)))))
+  compressed : {n m : ℕ} → Checked s n → 49 ≤ n → 1 ≤ codec s → codec s ≤ 4 → CountIs s m → FrontWrong s 6
+  -- count below -1
+  low : {n : ℕ} → Checked s n → 49 ≤ n → codec s ≤ 4 → CountBelow s → FrontWrong s 7
+  -- control batch with a count other than 1
+  control-count : {n m : ℕ} → Checked s n → 49 ≤ n → codec s ≡ 0 → attributesIn s 0 .control ≡ true → CountIs s m → (m ≡ 1 → ⊥)
+      → FrontWrong s 7
 
+-- Numbers 2 to 7 are given exactly where document 01 says.
 abbrev pub Numbers : Type 0
-Numbers = (s : List ℕ) → NumbersOf s
+Numbers = (s : List ℕ) (n : ℕ) → n ≤ 7 → Exactly (judge s ≡ refused n) (FrontWrong s n)
 
 -- ---- tables, and the check
 

@@ -39,7 +39,7 @@ ghost use Rattle.opening.specs.Judgement.{bareMarkerAt, judgeAt};
 ghost use Rattle.opening.specs.Opened.{judgedAs};
 ghost use Rattle.markers.specs.Markers.{viewMarker};
 ghost use Rattle.batches.specs.Answers.{viewFields, viewCheck, viewRead, answerWithRoom};
-ghost use Rattle.batches.specs.Reading.{tight, checkOfRecordsRead, ofRecordsRead};
+ghost use Rattle.batches.specs.Reading.{tight, checkOfRecordsRead, ofRecordsRead, Laid};
 ghost use Rattle.batches.specs.Writer.{writtenBatch, mostLength, rows, contentAsked, batchGivenBy};
 ghost use Rattle.batches.specs.Promises.{TotalSizePromise, CheckPromise, ReadBy, ReadPromise, RecordTimePromise, MeasurePromise, WritePromise, CanonicalPromise};
 
@@ -167,12 +167,14 @@ impl RecordBatch {
     ) -> Written
         ensures { λ r. ⌜ WritePromise self codec kind (tables (now (records .entry)) (now (headers .entry))) (now (source .entry)) (now (output .entry)) (record { result = r; output = now (output .exit) }) ⌝ }
     {
+        let fields = self.fields();
         if codec != 0 {
             return Written::Refused(WriteFault::Codec);
         }
         match kind {
-            ControlBatchOrRecords::ControlBatch(marker) => self.write_marker(marker, output),
-            ControlBatchOrRecords::Records(count) => self.write_rows(
+            ControlBatchOrRecords::ControlBatch(marker) => write_marker(fields, marker, output),
+            ControlBatchOrRecords::Records(count) => write_rows(
+                fields,
                 count,
                 records,
                 headers,
@@ -348,63 +350,62 @@ fn of_records(read: RecordsRead, batch: RecordBatch, total: usize) -> BatchRead
     }
 }
 
+fn write_marker(fields: BatchFields, marker: ControlBatchRecord, output: &mut [u8]) -> Written
+    ensures { λ r. ⌜ WriteBy (given (writtenBatch (record { fields = viewBatchFields fields; content = control (viewMarker marker) }))) 0 (now (output .entry)) (record { result = r; output = now (output .exit) }) ⌝ }
+{
+    if output.len() < RecordBatch::MARKED {
+        return Written::Refused(WriteFault::ShortOutput);
+    }
+    marker.put(output, BatchFields::FIXED);
+    finish(fields, true, Int32(1), RecordBatch::MARKED, output);
+    Written::Bytes(RecordBatch::MARKED)
+}
+
+// The records come first: the fixed fields in front of them have their length and checksum.
+fn write_rows(
+    fields: BatchFields,
+    count: usize,
+    records: &[i64],
+    headers: &[i64],
+    source: &[u8],
+    output: &mut [u8],
+) -> Written
+    ensures { λ r. ⌜ WriteBy (batchGivenBy (viewBatchFields fields) (now (source .entry)) (contentAsked (rows count) (tables (now (records .entry)) (now (headers .entry))) (now (source .entry)))) 0 (now (output .entry)) (record { result = r; output = now (output .exit) }) ⌝ }
+{
+    match write_records(
+        records,
+        headers,
+        0,
+        count,
+        source,
+        output,
+        BatchFields::FIXED,
+    ) {
+        Written::Bytes(size) => {
+            let end = BatchFields::FIXED + size;
+            finish(fields, false, Int32(count as i32), end, output);
+            Written::Bytes(end)
+        }
+        Written::Refused(f) => Written::Refused(f),
+    }
+}
+
+// Puts the fixed fields in front of a body, which stands in its place in the output and ends at `end`.
+fn finish(fields: BatchFields, is_control: bool, count: Int32, end: usize, output: &mut [u8])
+    requires { ⌜ (fixedPart ≤ end) × (end ≤ uncounted + mostLength) × (end ≤ length (now output)) ⌝ }
+    ensures { λ r. ⌜ now (output .exit) ≡ fixedBefore (viewBatchFields fields) (pos (end - uncounted)) (pos (attributesFor (viewBatchFields fields) (bit «is_control»))) (count .0) (take (end - fixedPart) (drop fixedPart (now (output .entry)))) ++ drop fixedPart (now (output .entry)) ⌝ }
+{
+    let attributes = fields.attributes(is_control);
+    let batch_length = Int32((end - BatchFields::UNCOUNTED) as i32);
+    let body = &output[BatchFields::FIXED..end];
+    let fixed = fields.fixed_before(batch_length, attributes, count, body);
+    put(&fixed, output, 0);
+}
+
 impl RecordBatch {
-    fn write_marker(self, marker: ControlBatchRecord, output: &mut [u8]) -> Written
-        ensures { λ r. ⌜ WriteBy (given (writtenBatch (record { fields = viewFields self; content = control (viewMarker marker) }))) 0 (now (output .entry)) (record { result = r; output = now (output .exit) }) ⌝ }
-    {
-        if output.len() < RecordBatch::MARKED {
-            return Written::Refused(WriteFault::ShortOutput);
-        }
-        marker.put(output, BatchFields::FIXED);
-        self.finish(true, Int32(1), RecordBatch::MARKED, output);
-        Written::Bytes(RecordBatch::MARKED)
-    }
-
-    // The records come first: the fixed fields in front of them have their length and checksum.
-    fn write_rows(
-        self,
-        count: usize,
-        records: &[i64],
-        headers: &[i64],
-        source: &[u8],
-        output: &mut [u8],
-    ) -> Written
-        ensures { λ r. ⌜ WriteBy (batchGivenBy (viewFields self) (now (source .entry)) (contentAsked (rows count) (tables (now (records .entry)) (now (headers .entry))) (now (source .entry)))) 0 (now (output .entry)) (record { result = r; output = now (output .exit) }) ⌝ }
-    {
-        match write_records(
-            records,
-            headers,
-            0,
-            count,
-            source,
-            output,
-            BatchFields::FIXED,
-        ) {
-            Written::Bytes(size) => {
-                let end = BatchFields::FIXED + size;
-                self.finish(false, Int32(count as i32), end, output);
-                Written::Bytes(end)
-            }
-            Written::Refused(f) => Written::Refused(f),
-        }
-    }
-
-    // Puts the fixed fields in front of a body, which stands in its place in the output and ends at `end`.
-    fn finish(self, is_control: bool, count: Int32, end: usize, output: &mut [u8])
-        requires { ⌜ (fixedPart ≤ end) × (end ≤ uncounted + mostLength) × (end ≤ length (now output)) ⌝ }
-        ensures { λ r. ⌜ now (output .exit) ≡ fixedBefore (viewFields self) (pos (end - uncounted)) (pos (attributesFor (viewFields self) (bit «is_control»))) (count .0) (take (end - fixedPart) (drop fixedPart (now (output .entry)))) ++ drop fixedPart (now (output .entry)) ⌝ }
-    {
-        let fields = self.fields();
-        let attributes = fields.attributes(is_control);
-        let batch_length = Int32((end - BatchFields::UNCOUNTED) as i32);
-        let body = &output[BatchFields::FIXED..end];
-        let fixed = fields.fixed_before(batch_length, attributes, count, body);
-        put(&fixed, output, 0);
-    }
-
-    // The fields, as they are laid out.
+    // The fields, as they are laid out. They are of their width.
     fn fields(self) -> BatchFields
-        ensures { λ r. ⌜ viewBatchFields r ≡ viewFields self ⌝ }
+        ensures { λ r. ⌜ Laid self r ⌝ }
     {
         let base_offset = self.base_offset;
         let partition_leader_epoch = self.partition_leader_epoch;

@@ -5,3 +5,4 @@ pub mod Fixed
 pub mod Time
 pub mod Promises
 pub mod Statements
+pub mod Worked

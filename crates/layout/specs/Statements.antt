@@ -2,12 +2,16 @@
 -- statement's name in small letters: `table-runs-on : TableRunsOn`.
 use Prim.Native.Nat.{ℕ, _+_}
 use mathlib.Core.Path.{_≡_}
+use mathlib.Core.Option.{none, some}
 use mathlib.Core.List.{List, [], _∷_}
-use lib.IntN.{ℤ}
+use lib.IntN.{ℤ, _+ℤ_}
 use lib.ListN.{length}
+use Rattle.numbers.specs.Exactly.{Exactly}
+use Rattle.numbers.specs.Format.{InBits}
 use Rattle.layout.specs.Table.{Slot, table, uncounted, unchecked, fixedChecked, fixedPart, uncountedFields, uncheckedFields, checkedFields}
 use Rattle.layout.specs.Batch.{Fields}
 use Rattle.layout.specs.Fixed.{fixedBefore}
+use Rattle.layout.specs.Time.{recordTime}
 
 -- the fields follow each other from a place up to another
 unfoldable pub RunOn : ℕ → List Slot → ℕ → Type 0
@@ -25,3 +29,11 @@ abbrev pub FixedLength : Type 0
 FixedLength =
     (x : Fields) (batchLength attributes count : ℤ) (body : List ℕ)
     → length (fixedBefore x batchLength attributes count body) ≡ fixedPart
+
+-- A record has a time exactly where firstTimestamp plus its delta is a number of 64 bits, and that is it; it has none
+-- exactly where the sum leaves them.
+abbrev pub RecordTimes : Type 0
+RecordTimes =
+    (x : Fields) (delta : ℤ)
+    → ((t : ℤ) → Exactly (recordTime x delta ≡ some t) ((t ≡ x .firstTimestamp +ℤ delta) × InBits 64 t))
+    × Exactly (recordTime x delta ≡ none) (InBits 64 (x .firstTimestamp +ℤ delta) → ⊥)

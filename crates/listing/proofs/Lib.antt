@@ -6,3 +6,5 @@ mod Lines
 pub mod Listed
 pub mod Single
 pub mod Turns
+pub mod WorkedLines
+pub mod WorkedLongest

@@ -73,7 +73,7 @@ turn-read : (s : List ℕ) (place : ℕ) (t : Tables) (o : ReadOutcome) → plac
     → readTurn place (o .result) ≡ turnAt (roomsOf t) s place
 turn-read s place t o h e =
     read-answered place (o .result)
-    ∙ ap (answered place) (e .answer)
+    ∙ ap (answered place) (e .by .answer)
     ∙ sym (judged-answered (roomsOf t) place (judge (drop place s)))
     ∙ sym (turn-judged (roomsOf t) s place h)
 
@@ -127,7 +127,7 @@ module _ (s : List ℕ) (place : ℕ) (t t′ : Tables) (r : BatchRead) (h : pla
   next-fits l = read-fits (roomsOf t) s place l r (turn-read s place t _ h reads)
 
   pub read-listed : (x : Entry) → x ≡ entryOf (readTurn place r) → ListAtPromise s place t (record { result = x; tables = t′ })
-  read-listed x f = record { result = f ∙ ap entryOf (turn-read s place t _ h reads); tables = reads .tables }
+  read-listed x f = record { result = f ∙ ap entryOf (turn-read s place t _ h reads); tables = reads .by .tables }
 
 -- ---- past the end nothing is read
 

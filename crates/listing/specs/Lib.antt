@@ -4,3 +4,4 @@ pub mod Answers
 pub mod Promises
 pub mod Writing
 pub mod Statements
+pub mod Worked

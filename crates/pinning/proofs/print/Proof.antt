@@ -38,10 +38,10 @@ enum-known-written : tie.Need-enum-known-written
 enum-known-written c = search needs
 
 array-share-prefix-output : tie.Need-array-share-prefix-output
-array-share-prefix-output c = omega (arith, within _ _ _ _ (c .before .before .before .before .write .ensures) (c .before .written .given .1))
+array-share-prefix-output c = omega (arith, within _ _ _ _ (c .before .before .before .before .write .ensures .by) (c .before .written .given .1))
 
 slice-aggregate-write-all : tie.Need-slice-aggregate-write-all
-slice-aggregate-write-all c = simp length-take (omega (arith, within _ _ _ _ (c .before .before .before .before .before .write .ensures) (c .before .before .written .given .1)))
+slice-aggregate-write-all c = simp length-take (omega (arith, within _ _ _ _ (c .before .before .before .before .before .write .ensures .by) (c .before .before .written .given .1)))
 
 write-all-requires : tie.Need-write-all-requires
 write-all-requires c κs = search needs

@@ -1,11 +1,15 @@
 -- `batches::RecordBatch::write` meets its contract. Assumes nothing.
 use borrow.Author.Needs.{needs}
+use Rattle.batches.proofs.Handed.{write-handed}
 use Rattle.batches.proofs.Giving.{write-codec, write-marked, write-asked}
 use Rattle.batches.proofs.RecordBatch.write.Statement.{statement}
 use Rattle.batches.proofs.RecordBatch.write.Tie as tie
 
 returns : tie.Need-returns
-returns c = search write-codec
+returns c = search (write-handed, write-codec)
+
+fields-requires : tie.Need-fields-requires
+fields-requires c κs = search needs
 
 enum-known-kind : tie.Need-enum-known-kind
 enum-known-kind c = search needs
@@ -23,18 +27,19 @@ same-length : tie.Need-same-length
 same-length c = search needs
 
 returns-2 : tie.Need-returns-2
-returns-2 c = search write-marked
+returns-2 c = search (write-handed, write-marked)
 
 same-length-2 : tie.Need-same-length-2
 same-length-2 c = search needs
 
 returns-3 : tie.Need-returns-3
-returns-3 c = search write-asked
+returns-3 c = search (write-handed, write-asked)
 
 pub write-spec : {M : Type 1} → statement M
 write-spec =
     tie.close
     (tie.spec
+    fields-requires
     returns
     enum-known-kind
     write-marker-requires

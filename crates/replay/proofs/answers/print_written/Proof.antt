@@ -26,10 +26,10 @@ print-requires : tie.Need-print-requires
 print-requires c κs = search needs
 
 array-share-prefix-output : tie.Need-array-share-prefix-output
-array-share-prefix-output c = omega (arith, within _ _ _ _ (c .before .before .before .before .before .before .write .ensures) (c .before .before .before .n .given .1))
+array-share-prefix-output c = omega (arith, within _ _ _ _ (c .before .before .before .before .before .before .write .ensures .by) (c .before .before .before .n .given .1))
 
 slice-aggregate-print-hexadecimal : tie.Need-slice-aggregate-print-hexadecimal
-slice-aggregate-print-hexadecimal c = simp length-take (omega (arith, within _ _ _ _ (c .before .before .before .before .before .before .before .write .ensures) (c .before .before .before .before .n .given .1)))
+slice-aggregate-print-hexadecimal c = simp length-take (omega (arith, within _ _ _ _ (c .before .before .before .before .before .before .before .write .ensures .by) (c .before .before .before .before .n .given .1)))
 
 print-hexadecimal-requires : tie.Need-print-hexadecimal-requires
 print-hexadecimal-requires c κs = search needs

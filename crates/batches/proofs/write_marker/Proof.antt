@@ -1,8 +1,8 @@
--- `batches::RecordBatch::write_marker` meets its contract. Assumes nothing.
+-- `batches::write_marker` meets its contract. Assumes nothing.
 use Rattle.batches.proofs.Giving.{marker-short, marker-written}
 use borrow.Author.Needs.{needs}
-use Rattle.batches.proofs.RecordBatch.write_marker.Statement.{statement}
-use Rattle.batches.proofs.RecordBatch.write_marker.Tie as tie
+use Rattle.batches.proofs.write_marker.Statement.{statement}
+use Rattle.batches.proofs.write_marker.Tie as tie
 
 returns : tie.Need-returns
 returns c = search (marker-short, needs)

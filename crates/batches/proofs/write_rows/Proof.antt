@@ -1,15 +1,15 @@
--- `batches::RecordBatch::write_rows` meets its contract: what was written of the records tells the length and the
+-- `batches::write_rows` meets its contract: what was written of the records tells the length and the
 -- count. Assumes nothing.
 use Prim.Native.Nat.{_+_, _^_, _≤_, _<_}
 use native.Mathlib.Omega.{arith}
 use lib.ListN.{length}
 use Rattle.writing.specs.Answers.{mostBytes}
 use Rattle.layout.specs.Table.{fixedPart}
-use Rattle.batches.specs.Answers.{viewFields}
+use Rattle.layout.specs.Fixed.{viewBatchFields}
 use borrow.Author.Needs.{needs}
 use Rattle.batches.proofs.Giving.{rows-refused, rows-sizes, rows-written}
-use Rattle.batches.proofs.RecordBatch.write_rows.Statement.{statement}
-use Rattle.batches.proofs.RecordBatch.write_rows.Tie as tie
+use Rattle.batches.proofs.write_rows.Statement.{statement}
+use Rattle.batches.proofs.write_rows.Tie as tie
 
 write-records-requires : tie.Need-write-records-requires
 write-records-requires c κs = search needs
@@ -22,7 +22,7 @@ sizes : (c : tie.After-known-told) → (c .before .size .given .0 .0 ≤ mostByt
 sizes c =
     let written = c .before .before .before .before .before .write-records in
     let given = c .before .before .before .before .before .before .before .before .before .args in
-    let w = rows-sizes (viewFields (given .self)) _ _ _ _ _ _ (written .ensures) _ (c .before .size .given .1) in
+    let w = rows-sizes (viewBatchFields (given .fields)) _ _ _ _ _ _ (written .ensures) _ (c .before .size .given .1) in
     (w .short, w .room, w .many)
 
 add-end : tie.Need-add-end

@@ -1,20 +1,17 @@
--- `batches::RecordBatch::finish` meets its contract. Assumes nothing.
+-- `batches::finish` meets its contract. Assumes nothing.
 use Rattle.batches.proofs.Putting.{finish-put}
 use borrow.Author.Needs.{needs}
-use Rattle.batches.proofs.RecordBatch.finish.Statement.{statement}
-use Rattle.batches.proofs.RecordBatch.finish.Tie as tie
-
-fields-requires : tie.Need-fields-requires
-fields-requires c κs = search needs
+use Rattle.batches.proofs.finish.Statement.{statement}
+use Rattle.batches.proofs.finish.Tie as tie
 
 attributes-requires : tie.Need-attributes-requires
 attributes-requires c κs = search needs
 
-sub-t11 : tie.Need-sub-t11
-sub-t11 c = search needs
+sub-t10 : tie.Need-sub-t10
+sub-t10 c = search needs
 
-cast-t12 : tie.Need-cast-t12
-cast-t12 c = search needs
+cast-t11 : tie.Need-cast-t11
+cast-t11 c = search needs
 
 sub-body : tie.Need-sub-body
 sub-body c = search needs
@@ -44,10 +41,9 @@ pub finish-spec : {M : Type 1} → statement M
 finish-spec =
     tie.close
     (tie.spec
-    fields-requires
     attributes-requires
-    sub-t11
-    cast-t12
+    sub-t10
+    cast-t11
     sub-body
     part-body-start
     part-body-end
