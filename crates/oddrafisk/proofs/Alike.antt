@@ -22,10 +22,10 @@ use Rattle.oddrafisk.specs.Promises.{Says, entriesGiven, Sizes, timed, t
 use Rattle.oddrafisk.specs.Statements.{ChecksAlike, ReadsAlike, Taken, MeasuresAlike, WritesAlike, CanonicalAlike, TimesAlike, askedKind, EntriesTaken}
 
 pub checks-alike : ChecksAlike
-checks-alike s r o e p = subst (λ (a : Answer). Says a o) (sym e) p
+checks-alike s r o e p = subst (λ (a : Answer). Says a o) (sym (e .answer)) (p .said)
 
 pub reads-alike : ReadsAlike
-reads-alike s t o o′ e p = (subst (λ (a : Answer). Says a (o′ .said)) (sym (e .answer)) (p .said), p .tables ∙ sym (e .tables))
+reads-alike s t o o′ e p = (subst (λ (a : Answer). Says a (o′ .said)) (sym (e .by .answer)) (p .said), p .tables ∙ sym (e .by .tables))
 
 -- ---- the writer
 
@@ -46,15 +46,15 @@ measures-alike e b codec kind t s r o taken p q =
 pub writes-alike : WritesAlike
 writes-alike e b codec kind t s out o o′ taken p q =
     let same = given-alike e b codec kind t s taken in (
-      subst (λ (a : Writing.Answer). Sizes a (o′ .said)) (ap (answerDue 0 out) same ∙ sym (p .answer)) (q .said),
-      q .output ∙ ap (outputDue 0 out) same ∙ sym (p .output),
+      subst (λ (a : Writing.Answer). Sizes a (o′ .said)) (ap (answerDue 0 out) same ∙ sym (p .by .answer)) (q .said),
+      q .output ∙ ap (outputDue 0 out) same ∙ sym (p .by .output),
     )
 
 -- ---- the canonical check
 
 pub canonical-alike : CanonicalAlike
-canonical-alike s true n e p = p .yes .1 (e .0 refl)
-canonical-alike s false n e p = p .no .1 (λ is. false≢true (e .1 is))
+canonical-alike s true n e p = p .yes .1 (e .says .0 refl)
+canonical-alike s false n e p = p .no .1 (λ is. false≢true (e .says .1 is))
 
 -- ---- times
 

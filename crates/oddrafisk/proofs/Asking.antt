@@ -2,15 +2,15 @@
 -- which a proof finds them. Assumes nothing.
 use Prim.Native.Nat.{ℕ, _+_, _≤_}
 use mathlib.Core.Path.{_≡_, refl, sym, ap, subst, _∙_}
-use mathlib.Core.Bool.{Bool, true, false, not}
+use mathlib.Core.Bool.{Bool, true, false, not, true≢false}
 use mathlib.Core.Option.{Option, none, some}
 use mathlib.Core.List.{List, [], _∷_}
 use native.Mathlib.Omega.{arith}
 use lib.Dec.{leb}
 use lib.IntN.{ℤ, pos}
 use lib.ListN.{length, getD}
-use mir.Syntax.{w64}
-use mir.Val.{SFits, toZ, ofZ}
+use mir.Syntax.{w8, w64}
+use mir.Val.{Fits, SFits, toZ, ofZ}
 use mir.ValLaws.{toZ-ofZ}
 use Rattle.numbers.specs.Pick.{pick}
 use Rattle.records.specs.Rows.{Tables}
@@ -25,14 +25,16 @@ use Rattle.batches.specs.declared.RecordBatch.{RecordBatch}
 use Rattle.batches.specs.declared.ControlBatchOrRecords.{ControlBatchOrRecords}
 use Rattle.batches.specs.Answers.{viewFields}
 use Rattle.batches.specs.Writer.{Wanted, viewWanted, batchGiven}
+use Rattle.batches.specs.Request.{InWidth}
+use Rattle.batches.specs.Promises as Batches
 use Rattle.batches.proofs.Encodes.{content-length, shows}
 use Rattle.batches.proofs.Given.{given-for}
 use Rattle.batches.proofs.Giving.{written-length}
 use Rattle.oddrafisk.specs.declared.asked.BatchAsked.{BatchAsked}
 use Rattle.oddrafisk.specs.declared.asked.KindAsked.{KindAsked}
 use Rattle.oddrafisk.specs.Entries.{fieldsFit, fieldsOf, kindWanted, AskedBatch, askedWith, entriesAsked}
-use Rattle.oddrafisk.specs.Promises.{givenFor, entriesGiven, Sizes, MeasurePromise, WritePromise}
-use Rattle.oddrafisk.specs.Words.{viewAsked, viewKindAsked}
+use Rattle.oddrafisk.specs.Promises.{givenFor, entriesGiven, Sizes, MeasurePromise, Handed, WritePromise}
+use Rattle.oddrafisk.specs.Words.{viewAsked, viewKindAsked, WritesFor}
 use Rattle.oddrafisk.proofs.Tests.{is-so, is-not}
 use Rattle.oddrafisk.proofs.Fitting.{negated, affirmed}
 
@@ -65,9 +67,24 @@ module _ (e : List ℤ) (r : Bool) (t : r ≡ fieldsFit e) where
 
 -- ---- what is given for them
 
+none-not-some : {X : Type 0} {a : AskedBatch} → none ≡ some a → X
+none-not-some p = let z : _≡_ {A = ℕ} 0 1 = cc in absurd (omega arith)
+
+some-same : {a b : AskedBatch} → some a ≡ some b → a ≡ b
+some-same p = cc
+
 module _ (e : List ℤ) (codec : ℤ) (f : SFits w64 codec) (t : Tables) (s : List ℕ) where
   abbrev gives : Given
   gives = entriesGiven e codec t s
+
+  -- what is written for them, where the entries ask for nothing that is not of its width
+  writes-for : ((i : ℕ) → Fits w8 (getD s i 0)) → ((b : AskedBatch) → is 0 codec ≡ true → entriesAsked e ≡ some b → InWidth (b .fields))
+      → (g : Given) → g ≡ gives → (out : List ℕ) (o : Writing.WriteOutcome) → WriteBy g 0 out o → WritesFor e codec t s out o
+  writes-for bytes widths g same out o w =
+      record {
+        handed = record { source = λ i. bytes i .fits; fields = widths };
+        by = subst (λ (g : Given). WriteBy g 0 out o) same w;
+      }
 
   codec-refused : (ofZ w64 codec ≡ 0 → ⊥) → refused 20 ≡ gives
   codec-refused z = rw (is-not codec f 0 (omega arith) z) refl
@@ -75,9 +92,11 @@ module _ (e : List ℤ) (codec : ℤ) (f : SFits w64 codec) (t : Tables) (s : Li
   pub measure-codec : (ofZ w64 codec ≡ 0 → ⊥) → refuses 20 ≡ measured gives
   measure-codec z = ap measured (codec-refused z)
 
-  pub write-codec : (ofZ w64 codec ≡ 0 → ⊥) → (out : List ℕ)
-      → WriteBy gives 0 out (record { result = Written.Refused WriteFault.Codec; output = out })
-  write-codec z out = subst (λ (g : Given). WriteBy g 0 out (record { result = Written.Refused WriteFault.Codec; output = out })) (codec-refused z) (record { answer = refl; output = refl })
+  pub write-codec : (ofZ w64 codec ≡ 0 → ⊥) → ((i : ℕ) → Fits w8 (getD s i 0)) → (out : List ℕ)
+      → WritesFor e codec t s out (record { result = Written.Refused WriteFault.Codec; output = out })
+  write-codec z bytes out =
+      writes-for bytes (λ b is _. absurd (true≢false (sym is ∙ is-not codec f 0 (omega arith) z))) (refused 20) (codec-refused z) out _
+      (record { answer = refl; output = refl })
 
   module _ (z : ofZ w64 codec ≡ 0) (x : BatchAsked) (v : viewAsked x ≡ entriesAsked e) where
     given-by : givenFor (viewAsked x) t s ≡ gives
@@ -90,8 +109,11 @@ module _ (e : List ℤ) (codec : ℤ) (f : SFits w64 codec) (t : Tables) (s : Li
       pub measure-wrong : refuses 21 ≡ measured gives
       measure-wrong = ap measured entries-refused
 
-      pub write-wrong : (out : List ℕ) → WriteBy gives 0 out (record { result = Written.Refused WriteFault.Row; output = out })
-      write-wrong out = subst (λ (g : Given). WriteBy g 0 out (record { result = Written.Refused WriteFault.Row; output = out })) entries-refused (record { answer = refl; output = refl })
+      pub write-wrong : ((i : ℕ) → Fits w8 (getD s i 0)) → (out : List ℕ)
+          → WritesFor e codec t s out (record { result = Written.Refused WriteFault.Row; output = out })
+      write-wrong bytes out =
+          writes-for bytes (λ b _ is. none-not-some (ap viewAsked (sym w) ∙ v ∙ is)) (refused 21) entries-refused out _
+          (record { answer = refl; output = refl })
 
     module _ (b : RecordBatch) (k : ControlBatchOrRecords) (w : x ≡ BatchAsked.Got b k) where
       entries-given : batchGiven (viewFields b) 0 (viewWanted k) t s ≡ gives
@@ -100,8 +122,14 @@ module _ (e : List ℤ) (codec : ℤ) (f : SFits w64 codec) (t : Tables) (s : Li
       pub measure-got : (r : Written) → viewWritten r ≡ measured (batchGiven (viewFields b) 0 (viewWanted k) t s) → viewWritten r ≡ measured gives
       measure-got r p = p ∙ ap measured entries-given
 
-      pub write-got : (out : List ℕ) (o : Writing.WriteOutcome) → WriteBy (batchGiven (viewFields b) 0 (viewWanted k) t s) 0 out o → WriteBy gives 0 out o
-      write-got out o p = subst (λ (g : Given). WriteBy g 0 out o) entries-given p
+      pub write-got : ((i : ℕ) → Fits w8 (getD s i 0)) → (out : List ℕ) (o : Writing.WriteOutcome) → Batches.WritePromise b 0 k t s out o
+          → WritesFor e codec t s out o
+      write-got bytes out o p = writes-for bytes widths (batchGiven (viewFields b) 0 (viewWanted k) t s) entries-given out o (p .by)
+        where
+          widths : (a : AskedBatch) → is 0 codec ≡ true → entriesAsked e ≡ some a → InWidth (a .fields)
+          widths a _ is =
+              let w : record { fields = viewFields b; wanted = viewWanted k } ≡ a = some-same (ap viewAsked (sym w) ∙ v ∙ is) in
+              subst (λ (a : AskedBatch). InWidth (a .fields)) w (p .handed .fields)
 
 -- ---- lengths
 
@@ -174,14 +202,15 @@ module _ (e : List ℤ) (codec : ℤ) (f : SFits w64 codec) (t : Tables) (s : Li
         subst (λ (g : Given). Sizes (measured g) (record { number = n; answer = toZ w64 (ofZ w64 l) ∷ [] })) is-given
         (said _ r v n p l q (measured-short handed short))
 
-  module _ (out : List ℕ) (o : Writing.WriteOutcome) (w : WriteBy handed 0 out o) where
+  module _ (out : List ℕ) (o : Writing.WriteOutcome) (w : WritesFor e (toZ w64 (ofZ w64 codec)) t s out o) where
     pub write-fits : viewWritten (o .result) .bytes ≤ 2147483659
-    write-fits = rw (w .answer) (due-short out handed short)
+    write-fits = rw (w .by .answer) (due-short out handed short)
 
     pub write-said : (n : ℕ) → n ≡ viewWritten (o .result) .number → (l : ℤ) → l ≡ pos (viewWritten (o .result) .bytes)
         → WritePromise e codec t s out (record { said = record { number = n; answer = toZ w64 (ofZ w64 l) ∷ [] }; output = o .output })
     write-said n p l q =
         record {
-          said = subst (λ (g : Given). Sizes (answerDue 0 out g) (record { number = n; answer = toZ w64 (ofZ w64 l) ∷ [] })) is-given (said _ (o .result) (w .answer) n p l q (due-short out handed short));
-          output = w .output ∙ ap (outputDue 0 out) is-given;
+          handed = subst (λ (z : ℤ). Handed e z s) (toZ-ofZ w64 codec f) (w .handed);
+          said = subst (λ (g : Given). Sizes (answerDue 0 out g) (record { number = n; answer = toZ w64 (ofZ w64 l) ∷ [] })) is-given (said _ (o .result) (w .by .answer) n p l q (due-short out handed short));
+          output = w .by .output ∙ ap (outputDue 0 out) is-given;
         }

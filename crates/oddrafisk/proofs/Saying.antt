@@ -10,7 +10,6 @@ use lib.IntN.{ℤ, pos}
 use mir.Syntax.{w64}
 use mir.Val.{SFits, toZ, ofZ}
 use mir.ValLaws.{toZ-ofZ}
-use Rattle.numbers.specs.Exactly.{Exactly}
 use Rattle.records.specs.Rows.{Tables}
 use Rattle.layout.specs.declared.RecordTime.{RecordTime}
 use Rattle.layout.specs.declared.RecordBatchTimestampType.{RecordBatchTimestampType}
@@ -21,9 +20,8 @@ use Rattle.opening.specs.Judgement.{judge}
 use Rattle.batches.specs.declared.BatchCheck.{BatchCheck}
 use Rattle.batches.specs.Answers.{Answer, viewCheck, viewRead, answerWithRoom, roomsOf}
 use Rattle.batches.specs.Promises as Batches
-use Rattle.batches.specs.Promises.{Canonical}
 use Rattle.oddrafisk.specs.Entries.{entriesOf, is0or1, typeOf}
-use Rattle.oddrafisk.specs.Promises.{Outcome, Says, ReadPromise, CanonicalPromise, timed, timeFor, timeSaid, RecordTimePromise}
+use Rattle.oddrafisk.specs.Promises.{Outcome, Says, CheckPromise, ReadPromise, CanonicalPromise, timed, timeFor, timeSaid, RecordTimePromise}
 use Rattle.oddrafisk.specs.Statements.{Counted}
 use Rattle.oddrafisk.specs.Words.{countsOf}
 use Rattle.oddrafisk.proofs.Fitting.{negated, affirmed}
@@ -44,37 +42,39 @@ module _ {R : Type 0} (view : R → Answer) (r r′ : R) (e : r ≡ r′) where
 
 -- ---- the check
 
-module _ (s : List ℕ) (r : BatchCheck) (e : viewCheck r ≡ answerWithRoom (judge s)) where
+module _ (s : List ℕ) (r : BatchCheck) (e : Batches.CheckPromise s r) where
   pub check-fits : Counted (viewCheck r)
-  check-fits = subst⁻¹ Counted e (check-counted s)
+  check-fits = subst⁻¹ Counted (e .answer) (check-counted s)
 
-  pub check-said : (o : Outcome) → Says (viewCheck r) o → Says (answerWithRoom (judge s)) o
-  check-said o x = subst (λ (a : Answer). Says a o) e x
+  pub check-said : (o : Outcome) → Says (viewCheck r) o → CheckPromise s o
+  check-said o x = record { lent = e .lent; said = subst (λ (a : Answer). Says a o) (e .answer) x }
 
 -- ---- the reader
 
-module _ (s : List ℕ) (t : Tables) (o : Batches.ReadOutcome) (e : Batches.ReadBy (judge s) t o) where
+module _ (s : List ℕ) (t : Tables) (o : Batches.ReadOutcome) (e : Batches.ReadPromise s t o) where
   pub read-fits : Counted (viewRead (o .result))
-  read-fits = subst⁻¹ Counted (e .answer) (read-counted s (roomsOf t))
+  read-fits = subst⁻¹ Counted (e .by .answer) (read-counted s (roomsOf t))
 
   pub read-said : (x : Outcome) → Says (viewRead (o .result)) x → ReadPromise s t (record { said = x; tables = o .tables })
-  read-said x says = record { said = subst (λ (a : Answer). Says a x) (e .answer) says; tables = e .tables }
+  read-said x says = record { lent = e .lent; said = subst (λ (a : Answer). Says a x) (e .by .answer) says; tables = e .by .tables }
 
 -- ---- the canonical check
 
-module _ (s : List ℕ) (r : Bool) (e : Exactly (r ≡ true) (Canonical s)) where
+module _ (s : List ℕ) (r : Bool) (e : Batches.CanonicalPromise s r) where
   pub canonical-yes : r ≡ true → CanonicalPromise s 1
   canonical-yes h =
       record {
-        yes = (λ _. e .0 h, λ _. refl);
-        no = (λ z. absurd (omega (arith, z)), λ never. absurd (never (e .0 h)));
+        lent = e .lent;
+        yes = (λ _. e .says .0 h, λ _. refl);
+        no = (λ z. absurd (omega (arith, z)), λ never. absurd (never (e .says .0 h)));
       }
 
   pub canonical-no : r ≡ false → CanonicalPromise s 0
   canonical-no h =
       record {
-        yes = (λ z. absurd (omega (arith, z)), λ is. absurd (true≢false (sym (e .1 is) ∙ h)));
-        no = (λ _ is. true≢false (sym (e .1 is) ∙ h), λ _. refl);
+        lent = e .lent;
+        yes = (λ z. absurd (omega (arith, z)), λ is. absurd (true≢false (sym (e .says .1 is) ∙ h)));
+        no = (λ _ is. true≢false (sym (e .says .1 is) ∙ h), λ _. refl);
       }
 
 -- ---- times, with the numbers as they are handed over

@@ -27,7 +27,7 @@ single-sizes a o o′ e e′ = said-same o o′ (e .number ∙ sym (e′ .number
 -- ---- the promises
 
 pub single-check : (s : List ℕ) → Single (CheckPromise s)
-single-check s = single-says _
+single-check s o o′ e e′ = single-says _ o o′ (e .said) (e′ .said)
 
 pub single-read : (s : List ℕ) (t : Tables) → Single (ReadPromise s t)
 single-read s t o o′ e e′ =

@@ -1,12 +1,14 @@
 -- What each function that other languages call promises of its result and of what it is lent to change, for every value
 -- of every parameter. Each cites what the layer below promises: the same judgement, the same bytes given. All else is
--- lent to be read: no function here can change it.
+-- lent to be read: no function here can change it. That lent bytes are bytes, and fields that entries ask for of their
+-- width, is promised too, so that no law about a function has to ask it.
 use Prim.Native.Nat.{ℕ}
 use mathlib.Core.Path.{_≡_}
-use mathlib.Core.Bool.{false}
+use mathlib.Core.Bool.{true, false}
 use mathlib.Core.Option.{Option, none, some}
 use mathlib.Core.List.{List, [], _∷_}
 use lib.IntN.{ℤ, pos}
+use Rattle.numbers.specs.Bytes.{Bytes}
 use Rattle.numbers.specs.Pick.{pick}
 use Rattle.numbers.specs.Exactly.{Exactly}
 use Rattle.crc32c.specs.Promises as Checksum
@@ -18,6 +20,7 @@ use Rattle.writing.specs.Answers.{Given, refused, measured, answerDue, outputDu
 use Rattle.opening.specs.Judgement.{is, judge}
 use Rattle.batches.specs.Answers.{Answer, answerWithRoom, roomsOf, answerOf, tablesOf}
 use Rattle.batches.specs.Writer.{batchGiven}
+use Rattle.batches.specs.Request.{InWidth}
 use Rattle.batches.specs.Promises.{Canonical}
 use Rattle.oddrafisk.specs.Entries.{entriesOf, is0or1, typeOf, AskedBatch, entriesAsked}
 
@@ -34,8 +37,9 @@ pub record Says (a : Answer) (o : Outcome) : Type 0 where
   pub answer : o .answer ≡ entriesOf a
 
 -- oddrafisk_check, on bytes s: as RecordBatch::check
-abbrev pub CheckPromise : List ℕ → Outcome → Type 0
-CheckPromise s o = Says (answerWithRoom (judge s)) o
+pub record CheckPromise (s : List ℕ) (o : Outcome) : Type 0 where
+  pub lent : Bytes s
+  pub said : Says (answerWithRoom (judge s)) o
 
 -- the same, with both tables at exit
 pub record ReadOutcome : Type 0 where
@@ -44,6 +48,7 @@ pub record ReadOutcome : Type 0 where
 
 -- oddrafisk_read, on bytes s and tables t: as RecordBatch::read
 pub record ReadPromise (s : List ℕ) (t : Tables) (o : ReadOutcome) : Type 0 where
+  pub lent : Bytes s
   pub said : Says (answerOf (judge s) (roomsOf t)) (o .said)
   pub tables : o .tables ≡ tablesOf (judge s) t
 
@@ -67,13 +72,19 @@ pub record Sizes (a : Writing.Answer) (o : Outcome) : Type 0 where
 abbrev pub MeasurePromise : List ℤ → ℤ → Tables → List ℕ → Outcome → Type 0
 MeasurePromise e codec t s o = Sizes (measured (entriesGiven e codec t s)) o
 
--- the same, with the output at exit
+-- what is handed in is of the machine's types: the source, and the fields that entries ask for
+pub record Handed (e : List ℤ) (codec : ℤ) (s : List ℕ) : Type 0 where
+  pub source : Bytes s
+  pub fields : (b : AskedBatch) → is 0 codec ≡ true → entriesAsked e ≡ some b → InWidth (b .fields)
+
+-- the same as measuring, with the output at exit
 pub record WriteOutcome : Type 0 where
   pub said : Outcome
   pub output : List ℕ
 
 -- oddrafisk_write, into an output
 pub record WritePromise (e : List ℤ) (codec : ℤ) (t : Tables) (s out : List ℕ) (o : WriteOutcome) : Type 0 where
+  pub handed : Handed e codec s
   pub said : Sizes (answerDue 0 out (entriesGiven e codec t s)) (o .said)
   pub output : o .output ≡ outputDue 0 out (entriesGiven e codec t s)
 
@@ -81,6 +92,7 @@ pub record WritePromise (e : List ℤ) (codec : ℤ) (t : Tables) (s out : List 
 
 -- oddrafisk_is_canonical, on bytes s: 1 as RecordBatch::is_canonical, else 0
 pub record CanonicalPromise (s : List ℕ) (r : ℕ) : Type 0 where
+  pub lent : Bytes s
   pub yes : Exactly (r ≡ 1) (Canonical s)
   pub no : Exactly (r ≡ 0) (Canonical s → ⊥)
 

@@ -4,24 +4,31 @@ use Prim.Native.Nat.{ℕ, _≤_}
 use mathlib.Core.Path.{_≡_}
 use mathlib.Core.Bool.{Bool}
 use mathlib.Core.Option.{some}
-use mathlib.Core.List.{List}
+use mathlib.Core.List.{List, [], _∷_, _++_}
 use lib.IntN.{ℤ, pos}
+use lib.ListN.{length, take, getD}
 use Rattle.numbers.specs.Pick.{pick}
+use Rattle.primitives.specs.Step.{ok}
+use Rattle.records.specs.Judgement.{RecordSpans}
 use Rattle.records.specs.Rows.{Tables}
 use Rattle.writing.specs.declared.Written.{Written}
 use Rattle.writing.specs.Answers.{viewWritten}
 use Rattle.writing.specs.Promises as Writing
-use Rattle.layout.specs.Batch.{Fields}
+use Rattle.asking.specs.Asked.{RowPlace}
+use Rattle.layout.specs.Batch.{Fields, Content}
 use Rattle.layout.specs.Time.{recordTime}
 use Rattle.opening.specs.Judgement.{judge}
 use Rattle.batches.specs.declared.RecordBatch.{RecordBatch}
 use Rattle.batches.specs.declared.ControlBatchOrRecords.{ControlBatchOrRecords}
 use Rattle.batches.specs.declared.BatchCheck.{BatchCheck}
-use Rattle.batches.specs.Answers.{Kind, ofRecords, ofMarker, Answer, accepts, viewFields, viewCheck, viewRead, answerWithRoom, Rooms, answerOf}
+use Rattle.batches.specs.Answers.{Kind, ofRecords, ofMarker, Answer, accepts, viewFields, viewCheck, viewRead, recordsIn, headersOf, answerWithRoom, Rooms, answerOf}
 use Rattle.batches.specs.Promises as Batches
-use Rattle.batches.specs.Writer.{Wanted, marker, rows, viewWanted}
-use Rattle.batches.specs.Rewriting.{InWidth}
-use Rattle.oddrafisk.specs.Entries.{typeEntry, entriesOf, entriesAsked}
+use Rattle.batches.specs.Placed.{shownContent}
+use Rattle.batches.specs.Writer.{Wanted, marker, rows, viewWanted, contentAsked}
+use Rattle.batches.specs.Request.{InWidth}
+use Rattle.batches.specs.Filled.{Filled}
+use Rattle.batches.specs.Demand2.{Enough}
+use Rattle.oddrafisk.specs.Entries.{typeEntry, entriesOf, AskedBatch, entriesAsked}
 use Rattle.oddrafisk.specs.Promises.{Outcome, Says, CheckPromise, ReadOutcome, ReadPromise, Sizes, MeasurePromise, WriteOutcome, WritePromise, CanonicalPromise, timeFor}
 
 -- ---- numbers
@@ -91,3 +98,56 @@ abbrev pub EntriesTaken : Type 0
 EntriesTaken =
     (x : Fields) (k : Kind) (n m bytes : ℕ) → InWidth x
     → entriesAsked (entriesOf (accepts x k n m bytes)) ≡ some (record { fields = x; wanted = askedKind k n })
+
+-- ---- what is written reads back
+
+-- what entries, tables and a source ask for: a marker, or records whose spans lie in the source
+pub record AsksFor (e : List ℤ) (t : Tables) (s : List ℕ) (c : Content RecordSpans) : Type 0 where
+  pub batch : AskedBatch
+  pub taken : entriesAsked e ≡ some batch
+  pub place : RowPlace
+  pub is : contentAsked (batch .wanted) t s ≡ ok c place
+
+-- What is read from the bytes s: number 0; the ten fields and the kind as the entries have them; the counts of what was
+-- asked for, and as many bytes as were written; and records (or a marker) that show in s what those asked for show in
+-- the source: equal deltas, nulls and bytes. Their rows stand in the tables.
+pub record SameInC (e : List ℤ) (c : Content RecordSpans) (source : List ℕ) (n : ℕ) (s : List ℕ) (t : Tables) (o : ReadOutcome) : Type 0 where
+  pub number : o .said .number ≡ 0
+  pub entries : (i : ℕ) → i ≤ 10 → getD (o .said .answer) i (pos 0) ≡ getD e i (pos 0)
+  pub records : getD (o .said .answer) 11 (pos 0) ≡ pos (recordsIn c)
+  pub headers : getD (o .said .answer) 12 (pos 0) ≡ pos (headersOf c)
+  pub bytes : getD (o .said .answer) 13 (pos 0) ≡ pos n
+  pub read : Content RecordSpans
+  pub filled : Filled read t (o .tables)
+  pub shows : shownContent s read ≡ shownContent source c
+
+-- what was accepted asks for something, and is read back as that, from its bytes with anything after them, rows enough
+-- being lent
+pub record WrittenInC (e : List ℤ) (t : Tables) (s : List ℕ) (w : WriteOutcome) : Type 0 where
+  pub content : Content RecordSpans
+  pub asked : AsksFor e t s content
+  pub size : ℕ
+  pub answer-is : w .said .answer ≡ pos size ∷ []
+  pub reads : (after : List ℕ) (t′ : Tables) (o : ReadOutcome) → ReadPromise (take size (w .output) ++ after) t′ o → Enough content t′
+      → SameInC e content s size (take size (w .output) ++ after) t′ o
+
+-- What oddrafisk_write accepts, oddrafisk_read reads back as the same batch.
+abbrev pub ReadsBackInC : Type 0
+ReadsBackInC =
+    (e : List ℤ) (codec : ℤ) (t : Tables) (s out : List ℕ) (w : WriteOutcome) → WritePromise e codec t s out w → w .said .number ≡ 0 → WrittenInC e t s w
+
+-- what was read is taken again by the writer: it is accepted, where the output is as long as the batch that was read, in
+-- no more bytes than that had
+pub record HandsOn (s : List ℕ) (t : Tables) (o : ReadOutcome) : Type 0 where
+  pub consumed : ℕ
+  pub size : ℕ
+  pub consumed-is : getD (o .said .answer) 13 (pos 0) ≡ pos consumed
+  pub within : size ≤ consumed
+  pub measures : (m : Outcome) → MeasurePromise (o .said .answer) (pos 0) (o .tables) s m → m ≡ record { number = 0; answer = pos size ∷ [] }
+  pub writes : (out : List ℕ) (w : WriteOutcome) → WritePromise (o .said .answer) (pos 0) (o .tables) s out w → consumed ≤ length out
+      → w .said ≡ record { number = 0; answer = pos size ∷ [] }
+
+-- What oddrafisk_read gives of a batch can be handed to oddrafisk_measure and oddrafisk_write as it stands, the tables
+-- with it, and the bytes that were read as the source.
+abbrev pub HandedOn : Type 0
+HandedOn = (s : List ℕ) (t : Tables) (o : ReadOutcome) → ReadPromise s t o → o .said .number ≡ 0 → HandsOn s t o

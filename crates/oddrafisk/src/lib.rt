@@ -18,8 +18,8 @@ use writing::Written;
 ghost use mathlib.Core.Path.{_≡_};
 ghost use Rattle.records.specs.Rows.{tables};
 ghost use Rattle.writing.specs.Answers.{viewWritten, measured};
-ghost use Rattle.writing.specs.Promises.{WriteBy};
 ghost use Rattle.oddrafisk.specs.Promises.{CheckPromise, ReadPromise, entriesGiven, MeasurePromise, WritePromise, CanonicalPromise, RecordTimePromise, Crc32cPromise};
+ghost use Rattle.oddrafisk.specs.Words.{WritesFor};
 
 // What the bytes begin with, by themselves.
 #[no_mangle]
@@ -151,7 +151,7 @@ fn write_asked(
     source: &[u8],
     output: &mut [u8],
 ) -> Written
-    ensures { λ r. ⌜ WriteBy (entriesGiven (now (batch .entry)) codec (tables (now (records .entry)) (now (headers .entry))) (now (source .entry))) 0 (now (output .entry)) (record { result = r; output = now (output .exit) }) ⌝ }
+    ensures { λ r. ⌜ WritesFor (now (batch .entry)) codec (tables (now (records .entry)) (now (headers .entry))) (now (source .entry)) (now (output .entry)) (record { result = r; output = now (output .exit) }) ⌝ }
 {
     if codec != 0 {
         return Written::Refused(WriteFault::Codec);
