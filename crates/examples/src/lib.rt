@@ -1,0 +1,1 @@
+// Worked batches, as data for theorems: no code.

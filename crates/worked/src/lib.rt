@@ -1,0 +1,1 @@
+// Worked batches from end to end, as theorems: no code.
