@@ -1,12 +1,12 @@
 -- What rows that are accepted ask for can be written, but for its size: each test that a row has passed is one of the
 -- format's conditions. Assumes nothing.
-use Prim.Native.Nat.{ℕ, _+_, _*_, _/_, _^_, _<_}
+use Prim.Native.Nat.{ℕ, _+_, _/_, _^_, _<_}
 use mathlib.Core.Path.{_≡_, subst}
 use mathlib.Core.List.{List, [], _∷_, map}
 use native.Mathlib.Omega.{arith}
 use lib.Dec.{leb}
-use lib.IntN.{ℤ, pos}
-use lib.ListN.{length, getD, length-append}
+use lib.IntN.{ℤ}
+use lib.ListN.{length, length-append}
 use Rattle.numbers.specs.Format.{InBits, inBits}
 use Rattle.numbers.proofs.InBits.{tested-in}
 use Rattle.numbers.proofs.Picks.{both-hold}

@@ -13,7 +13,7 @@ use Rattle.records.specs.Rows.{Tables}
 use Rattle.writing.specs.declared.Written.{Written}
 use Rattle.writing.specs.Answers.{given, measured}
 use Rattle.writing.proofs.Single.{single-written}
-use Rattle.layout.specs.Batch.{Fields, Content, control, records}
+use Rattle.layout.specs.Batch.{Content, control, records}
 use Rattle.opening.specs.Judgement.{accepted, Accepted, Judgement, judge}
 use Rattle.markers.specs.Markers.{viewMarker}
 use Rattle.batches.specs.declared.RecordBatch.{RecordBatch}
@@ -28,9 +28,9 @@ use Rattle.batches.proofs.Rooms.{Goes, wanting, refusing, roomy, crampe
 
 -- ---- what was answered is what was accepted
 
--- an acceptance names fields, and no other answer does
-named : {X : Type 0} {x : Fields} → some x ≡ none → X
-named e = let z : _≡_ {A = ℕ} 0 1 = cc in absurd (omega arith)
+-- what is named is not what is not: an acceptance names fields, and no other answer does
+pub none-not-some : {X A : Type 0} {a : A} → none ≡ some a → X
+none-not-some e = let z : _≡_ {A = ℕ} 0 1 = cc in absurd (omega arith)
 
 same-wanted : (k : ControlBatchOrRecords) (c : Content RecordSpans) → viewKind k ≡ kindOf c → viewCount k ≡ recordsIn c → viewWanted k ≡ wantedOf c
 same-wanted (ControlBatchOrRecords.ControlBatch m) (control n) e f = let w : viewMarker m ≡ n = cc in ap marker w
@@ -68,10 +68,10 @@ module _ (s : List ℕ) (t : Tables) (o : ReadOutcome) (b : RecordBatch) (kind :
         }
 
     goes-again : (j : Judgement) → judge s ≡ j → Goes t o j → Again
-    goes-again _ j (wanting a _) = named (ap (λ (y : Answer). y .fields) (sym (ap viewRead e) ∙ a))
-    goes-again _ j (refusing a _) = named (ap (λ (y : Answer). y .fields) (sym (ap viewRead e) ∙ a))
+    goes-again _ j (wanting a _) = none-not-some (ap (λ (y : Answer). y .fields) (sym a ∙ ap viewRead e))
+    goes-again _ j (refusing a _) = none-not-some (ap (λ (y : Answer). y .fields) (sym a ∙ ap viewRead e))
     goes-again _ j (roomy {b = c} room a tables) = room-again c j room (sym (ap viewRead e) ∙ a) tables
-    goes-again _ j (cramped _ a _) = named (ap (λ (y : Answer). y .fields) (sym (ap viewRead e) ∙ a))
+    goes-again _ j (cramped _ a _) = none-not-some (ap (λ (y : Answer). y .fields) (sym a ∙ ap viewRead e))
 
     pub again : ReadPromise s t o → Again
     again p = goes-again (judge s) refl (goes (judge s) t o (p .by))

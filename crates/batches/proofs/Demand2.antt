@@ -2,8 +2,8 @@
 -- and the check answer by it. Assumes nothing.
 use Prim.Native.Nat.{ℕ, _+_, _≤_}
 use mathlib.Core.Path.{_≡_, refl, sym, ap, _∙_, subst, transport}
-use mathlib.Core.Bool.{Bool, true, false}
-use mathlib.Core.Option.{none, some}
+use mathlib.Core.Bool.{Bool, false}
+use mathlib.Core.Option.{some}
 use mathlib.Core.List.{List, _++_}
 use native.Mathlib.Nat.{zero-add}
 use native.Mathlib.Omega.{arith}
@@ -13,24 +13,23 @@ use Rattle.primitives.specs.Stands.{Stands, Encoding}
 use Rattle.primitives.proofs.Places.{in-front}
 use Rattle.records.specs.Format.{Record}
 use Rattle.records.specs.Judgement.{RecordSpans}
-use Rattle.records.specs.Rows.{Tables}
-use Rattle.layout.specs.Batch.{Fields, Content, control, records, Batch}
+use Rattle.layout.specs.Batch.{Content, control, records, Batch}
 use Rattle.layout.specs.Format.{BatchBytes, ContentBytes}
 use Rattle.opening.specs.Judgement.{Judgement, more, refused, accepted, Accepted, bareMarkerAt, judge}
-use Rattle.batches.specs.declared.BatchCheck.{BatchCheck}
 use Rattle.batches.specs.Placed.{placedContent, placedBatch, shownContent, shownBatch}
 use Rattle.batches.specs.Answers.{Standing, Answer, accepts, refuses, viewCheck, viewRead, kindOf, recordsIn, headersOf, acceptedAs, answerWithRoom, roomsOf, hasRoom, answerOf, stored}
 use Rattle.batches.specs.Request.{InWidth}
-use Rattle.batches.specs.Promises.{CheckPromise, ReadOutcome, ReadBy, ReadPromise}
+use Rattle.batches.specs.Promises.{ReadBy}
 use Rattle.batches.specs.FirstFaults.{FirstFault}
 use Rattle.batches.specs.Filled.{Filled}
-use Rattle.batches.specs.Demand2.{Names, spansOf, Enough, ReadAs, ReadSound, ReadComplete, ReadFaults, ReadInWidth, CheckAs, CheckSound, CheckComplete, CheckFaults, DemandTwo}
+use Rattle.batches.specs.Demand2.{Names, spansOf, ReadAs, ReadSound, ReadComplete, ReadFaults, ReadInWidth, CheckAs, CheckSound, CheckComplete, CheckFaults, DemandTwo}
 use Rattle.batches.specs.Demand3.{StandsByFormat, NoRoomByFormat}
 use Rattle.batches.proofs.Sound.{sound}
 use Rattle.batches.proofs.Complete.{complete}
 use Rattle.batches.proofs.Numbers.{refusals, bare-marker-within}
 use Rattle.batches.proofs.Faults.{judged-faults}
 use Rattle.batches.proofs.Own.{in-width}
+use Rattle.batches.proofs.Again.{none-not-some}
 use Rattle.batches.proofs.Rooms.{Goes, wanting, refusing, roomy, cramped, goes, numbered}
 use Rattle.batches.proofs.Filled.{stored-filled}
 use Rattle.batches.proofs.Reasons.{no-room}
@@ -204,9 +203,6 @@ no-room-by-format s t o n m p = (
 )
 
 -- ---- widths
-
-none-not-some : {X : Type 0} {x : Fields} → none ≡ some x → X
-none-not-some e = let z : _≡_ {A = ℕ} 0 1 = cc in absurd (omega arith)
 
 pub read-in-width : ReadInWidth
 read-in-width s t o x p is = by (judge s) refl (goes (judge s) t o (p .by))

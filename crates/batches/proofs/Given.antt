@@ -26,10 +26,10 @@ use Rattle.batches.proofs.Encodes.{WritableContent, content-length, sho
 
 -- ---- which way a test went
 
-given-not-refused : {X : Type 0} {bs : List ℕ} {n : ℕ} → given bs ≡ refused n → X
+pub given-not-refused : {X : Type 0} {bs : List ℕ} {n : ℕ} → given bs ≡ refused n → X
 given-not-refused e = let z : _≡_ {A = ℕ} 0 1 = cc in absurd (omega arith)
 
-pick-given : (t : Bool) (g : Given) (n : ℕ) {bs : List ℕ} → pick t g (refused n) ≡ given bs → (t ≡ true) × (g ≡ given bs)
+pub pick-given : (t : Bool) (g : Given) (n : ℕ) {bs : List ℕ} → pick t g (refused n) ≡ given bs → (t ≡ true) × (g ≡ given bs)
 pick-given true g n e = (refl, e)
 pick-given false g n e = given-not-refused (sym e)
 

@@ -10,7 +10,6 @@ use mir.Val.{Fits, SFits, toZ, ofZ}
 use mir.ValLaws.{toZ-ofZ}
 use Rattle.numbers.specs.Bytes.{Bytes}
 use Rattle.records.specs.Rows.{Tables}
-use Rattle.writing.specs.Answers.{Given}
 use Rattle.writing.specs.Promises.{WriteOutcome, WriteBy}
 use Rattle.layout.specs.declared.BatchFields.{BatchFields}
 use Rattle.layout.specs.declared.RecordTime.{RecordTime}

@@ -3,7 +3,7 @@
 use Prim.Native.Nat.{ℕ, _+_, _^_, _≤_, _<_}
 use mathlib.Core.Path.{_≡_, refl, ap, subst, transport, transport⁻¹}
 use mathlib.Core.Bool.{Bool, true}
-use mathlib.Core.Logic.{_⊎_, inl, inr}
+use mathlib.Core.Logic.{inl, inr}
 use mathlib.Core.List.{List}
 use native.Mathlib.Omega.{arith}
 use native.Mathlib.Nat.{zero-add}
@@ -11,7 +11,6 @@ use borrow.Author.Tests.{ltb-true, lt-ltb}
 use lib.Dec.{ltb}
 use lib.IntN.{ℤ, pos, negsuc}
 use lib.ListN.{length, take, length-take}
-use Rattle.numbers.specs.Exactly.{Exactly}
 use Rattle.primitives.specs.Step.{ok, no, andThen}
 use Rattle.primitives.specs.Reading.{signedBy, integerAt}
 use Rattle.primitives.proofs.Windows.{big-window}
@@ -21,7 +20,7 @@ use Rattle.layout.specs.Batch.{Marker, abort, commit}
 use Rattle.opening.specs.Judgement.{refused, accepted, unsignedIn, numberIn, attributesIn, is, below, Control, contentAt, markerOf, endedAt, bareMarkerAt, judge}
 use Rattle.opening.proofs.Tests.{Totals, low, unknown, there, is-false, is-not, Openings, no-attributes, unknown-codec, no-fields, low-count, compressed, wrong-count}
 use Rattle.batches.specs.Answers.{Standing}
-use Rattle.batches.specs.Statements.{Within, Refusals, BareMarkerWithin, Whole, sum, Checked, codec, Below, CountIs, FrontWrong, Numbers}
+use Rattle.batches.specs.Statements.{Within, Refusals, BareMarkerWithin, Whole, sum, Checked, Below, FrontWrong, Numbers}
 use Rattle.batches.proofs.Refused.{Right, WholeRefusal, differs, unopened, unread, Refusal, unsized, sized, refusal, refused-is, content-no}
 
 -- ---- the bare marker

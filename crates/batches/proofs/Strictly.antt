@@ -42,7 +42,6 @@ use Rattle.opening.specs.Judgement.{accepted, Accepted, contentAt, bareMarkerAt
 use Rattle.opening.specs.Opened.{KnownAt, openAt, asAccepted, judgedAs, judgedFrom}
 use Rattle.opening.specs.Answers.{viewOpened}
 use Rattle.opening.proofs.Judging.{judged-by-opening, opened-inside}
-use Rattle.opening.proofs.Tests.{opened}
 use Rattle.opening.proofs.Verdicts.{more-not-accepted, refused-not-accepted, same-accepted}
 use Rattle.canonical.specs.Promises.{StandStrictly, CanonicalRecordsPromise}
 use Rattle.markers.specs.Markers.{isOk}

@@ -16,7 +16,7 @@ use Rattle.asking.specs.declared.WriteFault.{WriteFault}
 use Rattle.asking.specs.Asked.{RowPlace}
 use Rattle.asking.specs.RowFaults.{AskedWrong}
 use Rattle.writing.specs.declared.Written.{Written as WrittenAnswer}
-use Rattle.writing.specs.Answers.{Answer, given, viewWritten}
+use Rattle.writing.specs.Answers.{Answer, viewWritten}
 use Rattle.writing.specs.Promises.{WriteOutcome}
 use Rattle.layout.specs.Table.{uncounted}
 use Rattle.layout.specs.Batch.{Fields, Marker, Content, Batch}

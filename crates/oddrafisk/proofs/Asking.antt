@@ -3,7 +3,7 @@
 use Prim.Native.Nat.{ℕ, _+_, _≤_}
 use mathlib.Core.Path.{_≡_, refl, sym, ap, subst, _∙_}
 use mathlib.Core.Bool.{Bool, true, false, not, true≢false}
-use mathlib.Core.Option.{Option, none, some}
+use mathlib.Core.Option.{Option, none, some, Option·some-injective}
 use mathlib.Core.List.{List, [], _∷_}
 use native.Mathlib.Omega.{arith}
 use lib.Dec.{leb}
@@ -29,6 +29,7 @@ use Rattle.batches.specs.Request.{InWidth}
 use Rattle.batches.specs.Promises as Batches
 use Rattle.batches.proofs.Encodes.{content-length, shows}
 use Rattle.batches.proofs.Given.{given-for}
+use Rattle.batches.proofs.Again.{none-not-some}
 use Rattle.batches.proofs.Giving.{written-length}
 use Rattle.oddrafisk.specs.declared.asked.BatchAsked.{BatchAsked}
 use Rattle.oddrafisk.specs.declared.asked.KindAsked.{KindAsked}
@@ -66,12 +67,6 @@ module _ (e : List ℤ) (r : Bool) (t : r ≡ fieldsFit e) where
         ∙ ap (λ (k : KindAsked). askedWith (fieldsOf e) (viewKindAsked k)) (sym p) ∙ asked-by
 
 -- ---- what is given for them
-
-none-not-some : {X : Type 0} {a : AskedBatch} → none ≡ some a → X
-none-not-some p = let z : _≡_ {A = ℕ} 0 1 = cc in absurd (omega arith)
-
-some-same : {a b : AskedBatch} → some a ≡ some b → a ≡ b
-some-same p = cc
 
 module _ (e : List ℤ) (codec : ℤ) (f : SFits w64 codec) (t : Tables) (s : List ℕ) where
   abbrev gives : Given
@@ -128,7 +123,7 @@ module _ (e : List ℤ) (codec : ℤ) (f : SFits w64 codec) (t : Tables) (s : Li
         where
           widths : (a : AskedBatch) → is 0 codec ≡ true → entriesAsked e ≡ some a → InWidth (a .fields)
           widths a _ is =
-              let w : record { fields = viewFields b; wanted = viewWanted k } ≡ a = some-same (ap viewAsked (sym w) ∙ v ∙ is) in
+              let w : record { fields = viewFields b; wanted = viewWanted k } ≡ a = Option·some-injective _ a (ap viewAsked (sym w) ∙ v ∙ is) in
               subst (λ (a : AskedBatch). InWidth (a .fields)) w (p .handed .fields)
 
 -- ---- lengths

@@ -1,6 +1,6 @@
 -- What the writer accepts is an encoding of what the entries ask for, and so is read back as that; and what was read
 -- asks for itself, by its entries and from its own rows. Assumes nothing.
-use Prim.Native.Nat.{ℕ, _+_, _≤_, _<_}
+use Prim.Native.Nat.{ℕ, _+_, _<_}
 use mathlib.Core.Path.{_≡_, refl, sym, ap, _∙_, subst}
 use mathlib.Core.Bool.{Bool, true, false}
 use mathlib.Core.Logic.{_⊎_, inl, inr}
@@ -8,10 +8,9 @@ use mathlib.Core.Option.{Option, none, some}
 use mathlib.Core.List.{List, [], _∷_, _++_}
 use native.Mathlib.Omega.{arith}
 use native.Mathlib.Decide.{ℕ-discrete}
-use native.Mathlib.Nat.{zero-add}
 use borrow.Author.Tests.{le-leb}
 use lib.IntN.{ℤ, pos, negsuc}
-use lib.ListN.{length, take, drop, getD}
+use lib.ListN.{length, take, getD}
 use lib.Seq.{take-at}
 use Rattle.numbers.specs.Pick.{pick}
 use Rattle.primitives.specs.Step.{ok}
@@ -20,24 +19,24 @@ use Rattle.asking.specs.Asked.{RowPlace, recordsAsked}
 use Rattle.records.specs.Format.{Record}
 use Rattle.records.specs.Judgement.{RecordSpans}
 use Rattle.records.specs.Rows.{Tables}
-use Rattle.layout.specs.Batch.{TimestampType, createTime, logAppendTime, Fields, abort, commit, Content, control, records, Batch}
+use Rattle.layout.specs.Batch.{Fields, abort, commit, Content, control, records, Batch}
 use Rattle.layout.specs.Format.{BatchBytes}
 use Rattle.writing.specs.declared.Written.{Written}
 use Rattle.writing.specs.Answers as Writing
-use Rattle.writing.specs.Answers.{writes, Given, given, refused, measured, answerDue, outputDue}
+use Rattle.writing.specs.Answers.{writes, given, refused, measured, answerDue}
 use Rattle.writing.proofs.Outcomes.{Numbered, put}
 use Rattle.opening.specs.Judgement.{is, Judgement, more, accepted, Accepted, judge}
 use Rattle.opening.specs.Judgement as Judging
-use Rattle.batches.specs.Placed.{placedBatch, shownContent, shownBatch}
-use Rattle.batches.specs.Answers.{Answer, accepts, acceptedAs, lacksRoom, Kind, ofRecords, ofMarker, kindOf, recordsIn, headersOf, roomsOf, hasRoom, answerOf, stored, tablesOf}
+use Rattle.batches.specs.Placed.{placedBatch}
+use Rattle.batches.specs.Answers.{Answer, accepts, acceptedAs, lacksRoom, Kind, ofRecords, ofMarker, kindOf, recordsIn, headersOf, roomsOf, hasRoom, answerOf, stored}
 use Rattle.batches.specs.Writer.{Wanted, marker, rows, contentAsked, batchGiven, wantedOf}
-use Rattle.batches.specs.Request.{InWidth}
 use Rattle.batches.specs.Filled.{Filled}
 use Rattle.batches.specs.Demand2.{Enough}
+use Rattle.batches.proofs.Again.{none-not-some}
 use Rattle.batches.proofs.Complete.{complete}
 use Rattle.batches.proofs.Encodes.{shows}
 use Rattle.batches.proofs.Filled.{stored-filled}
-use Rattle.batches.proofs.Given.{given-for, given-encodes}
+use Rattle.batches.proofs.Given.{given-not-refused, pick-given, given-for, given-encodes}
 use Rattle.batches.proofs.Own.{rewritten, Own, own, own-given, in-width}
 use Rattle.batches.proofs.Sound.{sound}
 use Rattle.batches.proofs.Written.{pick-numbered, given-numbered}
@@ -47,22 +46,15 @@ use Rattle.numbers.proofs.Picks.{both-hold}
 use Rattle.primitives.proofs.Steps.{map-ok}
 use Rattle.opening.proofs.Tests.{is-true}
 use Rattle.oddrafisk.specs.Entries.{typeEntry, flagEntry, kindEntry, entriesOf, is0or1, widthsFit, flagsFit, fieldsFit, typeOf, flagOf, fieldsOf, rowsOf, kindWanted, AskedBatch, askedWith, entriesAsked}
-use Rattle.oddrafisk.specs.Promises.{Outcome, Says, ReadOutcome, ReadPromise, givenFor, entriesGiven, Sizes, MeasurePromise, WriteOutcome, WritePromise}
-use Rattle.oddrafisk.specs.Statements.{askedKind, AsksFor, SameInC, WrittenInC, ReadsBackInC, HandsOn, HandedOn}
+use Rattle.oddrafisk.specs.Promises.{Outcome, ReadOutcome, ReadPromise, givenFor, entriesGiven, Sizes}
+use Rattle.oddrafisk.specs.Statements.{askedKind, SameInC, ReadsBackInC, HandsOn, HandedOn}
 use Rattle.oddrafisk.proofs.Alike.{entries-taken}
 
 -- ---- which way a test went
 
 pick-some : {A : Type 0} (t : Bool) (x : Option A) {a : A} → pick t x none ≡ some a → (t ≡ true) × (x ≡ some a)
 pick-some true x e = (refl, e)
-pick-some false x e = let z : _≡_ {A = ℕ} 0 1 = cc in absurd (omega arith)
-
-given-not-refused : {X : Type 0} {bs : List ℕ} {n : ℕ} → refused n ≡ given bs → X
-given-not-refused e = let z : _≡_ {A = ℕ} 0 1 = cc in absurd (omega arith)
-
-pick-given : (t : Bool) (g : Given) (n : ℕ) {bs : List ℕ} → pick t g (refused n) ≡ given bs → (t ≡ true) × (g ≡ given bs)
-pick-given true g n e = (refl, e)
-pick-given false g n e = given-not-refused e
+pick-some false x e = none-not-some e
 
 -- ---- what entries ask for
 
@@ -74,7 +66,7 @@ record Taken (e : List ℤ) (b : AskedBatch) : Type 0 where
   kind : kindWanted (getD e 10 (pos 0)) (getD e 11 (pos 0)) ≡ some (b .wanted)
 
 asked-with : (x : Fields) (w : Option Wanted) {b : AskedBatch} → askedWith x w ≡ some b → (b .fields ≡ x) × (w ≡ some (b .wanted))
-asked-with x none e = let z : _≡_ {A = ℕ} 0 1 = cc in absurd (omega arith)
+asked-with x none e = none-not-some e
 asked-with x (some w) {b} e =
     let same : record { fields = x; wanted = w } ≡ b = cc in
     (ap (λ (a : AskedBatch). a .fields) (sym same), ap (λ (a : AskedBatch). some (a .wanted)) same)
@@ -115,7 +107,7 @@ wantedKind (rows n) = ofRecords
 
 rows-kind : (n : ℤ) {w : Wanted} → rowsOf n ≡ some w → wantedKind w ≡ ofRecords
 rows-kind (pos n) {w} e = let same : rows n ≡ w = cc in ap wantedKind (sym same)
-rows-kind (negsuc k) e = let z : _≡_ {A = ℕ} 0 1 = cc in absurd (omega arith)
+rows-kind (negsuc k) e = none-not-some e
 
 kind-told : (z n : ℤ) {w : Wanted} (a b d : Bool) → is 1 z ≡ a → is 2 z ≡ b → is 0 z ≡ d
     → pick a (some (marker abort)) (pick b (some (marker commit)) (pick d (rowsOf n) none)) ≡ some w → kindEntry (wantedKind w) ≡ z
@@ -202,7 +194,7 @@ entries-numbered e codec t s = pick-numbered (is 0 codec) (givenFor (entriesAske
 
 given-asked : (a : Option AskedBatch) (t : Tables) (s : List ℕ) {bs : List ℕ} → givenFor a t s ≡ given bs
     → (b : AskedBatch) × (a ≡ some b) × (batchGiven (b .fields) 0 (b .wanted) t s ≡ given bs)
-given-asked none t s e = given-not-refused e
+given-asked none t s e = given-not-refused (sym e)
 given-asked (some b) t s e = (b, refl, e)
 
 pub reads-back-in-c : ReadsBackInC

@@ -16,9 +16,8 @@ use Rattle.layout.specs.declared.RecordBatchTimestampType.{RecordBatchTimestamp
 use Rattle.layout.specs.Batch.{TimestampType}
 use Rattle.layout.specs.Fixed.{viewType}
 use Rattle.layout.specs.Time.{recordTime, viewTime}
-use Rattle.opening.specs.Judgement.{judge}
 use Rattle.batches.specs.declared.BatchCheck.{BatchCheck}
-use Rattle.batches.specs.Answers.{Answer, viewCheck, viewRead, answerWithRoom, roomsOf}
+use Rattle.batches.specs.Answers.{Answer, viewCheck, viewRead, roomsOf}
 use Rattle.batches.specs.Promises as Batches
 use Rattle.oddrafisk.specs.Entries.{entriesOf, is0or1, typeOf}
 use Rattle.oddrafisk.specs.Promises.{Outcome, Says, CheckPromise, ReadPromise, CanonicalPromise, timed, timeFor, timeSaid, RecordTimePromise}
