@@ -16,7 +16,11 @@ import ours
 import python_kafka
 
 TOP = pathlib.Path(__file__).resolve().parent.parent.parent
-UNKNOWN_MAGIC, COMPRESSED, NEGATIVE_LENGTH = 3, 6, 10
+UNKNOWN_MAGIC, COMPRESSED, NEGATIVE_LENGTH, UNKNOWN_MARKER = 3, 6, 10, 12
+# An abort marker by sarama 1.22.1, in the form that brokers write: version and type stand in the key of a record.
+BROKERS_MARKER = bytes.fromhex(
+    "0000000000000000 00000042 00000000 02 37473112 0030 00000000 0000018bcfe56800 0000018bcfe56801"
+    "0000000000002329 0000 ffffffff 00000001 20 00 00 00 08 00000000 0c 000000000005 00")
 # The places of words in the line of a batch, and of the time in the line of a record.
 TIMESTAMP_TYPE, KIND, BYTES, RECORD_TIME = 10, 12, 15, 2
 NOT_COMPARED = "-"
@@ -93,9 +97,7 @@ def comparable(lines):
 
 
 def samples():
-    """The logs of samples/, and those of ../shared/samples that are others."""
-    found = sorted(TOP.glob("samples/*.log")) + sorted(TOP.parent.glob("shared/samples/*.log"))
-    return list(dict.fromkeys(path.read_bytes() for path in found))
+    return [path.read_bytes() for path in sorted(TOP.glob("samples/*.log"))]
 
 
 def packed(parts):
@@ -163,13 +165,14 @@ def refused(readers):
     old = LegacyRecordBatchBuilder(magic=1, compression_type=0, batch_size=2 ** 16)
     old.append(0, timestamp=record.time, key=record.key, value=record.value)
     made = {
-        "a null header value": (python_kafka.made(cases.batch([without_value])), NEGATIVE_LENGTH),
-        "gzip": (python_kafka.made(cases.batch(cases.plain(100)), python_kafka.GZIP), COMPRESSED),
-        "magic 1": (bytes(old.build()), UNKNOWN_MAGIC),
+        "python3-kafka's null header value": (python_kafka.made(cases.batch([without_value])), NEGATIVE_LENGTH),
+        "its gzip": (python_kafka.made(cases.batch(cases.plain(100)), python_kafka.GZIP), COMPRESSED),
+        "its magic 1": (bytes(old.build()), UNKNOWN_MAGIC),
+        "sarama's marker": (BROKERS_MARKER, UNKNOWN_MARKER),
     }
     for name, (data, number) in made.items():
-        hold("made by python3-kafka, with " + name, readers.library.read(data), ([], 0, number))
-    print("made by python3-kafka and refused: " + ", ".join("%s by %d" % (n, k) for n, (_, k) in made.items()))
+        hold("refused, " + name, readers.library.read(data), ([], 0, number))
+    print("refused: " + ", ".join("%s by %d" % (n, k) for n, (_, k) in made.items()))
 
 
 def main():

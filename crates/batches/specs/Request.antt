@@ -1,5 +1,5 @@
--- What is handed to the writer. Of a value of the machine's types it is so that each field is an integer of its bytes, and
--- each element of the source a byte; the functions promise that it is.
+-- What is handed to the writer. Of a value of the machine's types it is so that each field is an integer of its bytes,
+-- and each element of the source a byte; the functions promise that it is.
 use Prim.Native.Nat.{ℕ}
 use mathlib.Core.List.{List}
 use Rattle.numbers.specs.Bytes.{Bytes}
