@@ -164,11 +164,11 @@ UNLIKE = dict(
 )
 UNLIKE_RECORDS = [
     Record(-1000000007, 70000, b"key", b"value", [(b"h", b"header"), ("\u00e9".encode(), b"four")]),
-    Record(300, -2, b"another", b"\0\xff", [(b"no value", b""), (b"", b"no key at")]),
+    Record(300, -2, b"another", b"\0\xff at last", [(b"no value", b""), (b"eleven keys", b"nine here")]),
 ]
 NEGATIVE = {name: -1 - place for place, name in enumerate(FIELDS)}
 LATE = {**UNLIKE, "firstTimestamp": LARGEST}
-LATE_RECORDS = [Record(1, 0, None, b"", []), Record(-1, 1, b"", None, [(b"k", b"")])]
+LATE_RECORDS = [Record(1, 0, None, b"", []), Record(-1, 1, b"", None, [(b"", b"k")])]
 
 # Document 01: a record of the smallest kind, whose fields are changed below.
 NO_FIELDS = "00 00 00 01 01 00"
@@ -192,6 +192,7 @@ RECORD_REFUSALS = [
 MARKER_REFUSALS = [
     ("0000 00", 8, "the marker ends in its type"),
     ("0001 0000", 12, "the version is 1"),
+    ("0001 00", 12, "the version is 1, and the marker ends in its type"),
     ("0000 0002", 12, "the type is 2"),
     ("0000 0001 00", 13, "a byte is left after the marker"),
     ("20 00 00 00 08 00000000 0C 000000000005 00", 12, "sarama 1.22.1: version and type stand in a record's key"),
@@ -430,7 +431,7 @@ def example(name, data, about):
     yield private(name, "List ℕ", hexed(fixed_lines(data) + batch.lines), about)
     if not batch.marker:
         yield private(name + "Records", "List PlainRecord", several(map(plain_record, batch.records), 4))
-    yield private(name + "Example", "Example", of_fields({
+    yield defined(name + "Example", "Example", of_fields({
         "bytes": name,
         **{field: number(n) for field, n in batch.fixed.items() if field != "magic"},
         **{field: str(batch.fixed[field]) for field in UNSIGNED},

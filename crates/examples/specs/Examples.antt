@@ -155,7 +155,7 @@ kcatRecords =
     }
     ∷ []
 
-abbrev kcatExample : Example
+abbrev pub kcatExample : Example
 kcatExample =
     record {
       bytes = kcat;
@@ -238,7 +238,7 @@ absentRecords =
     }
     ∷ []
 
-abbrev absentExample : Example
+abbrev pub absentExample : Example
 absentExample =
     record {
       bytes = absent;
@@ -302,7 +302,7 @@ earlierRecords =
     }
     ∷ []
 
-abbrev earlierExample : Example
+abbrev pub earlierExample : Example
 earlierExample =
     record {
       bytes = earlier;
@@ -364,7 +364,7 @@ transactionRecords =
     }
     ∷ []
 
-abbrev transactionExample : Example
+abbrev pub transactionExample : Example
 transactionExample =
     record {
       bytes = transaction;
@@ -402,10 +402,10 @@ transactionExample =
 -- Every number and every length is another: not transactional, log append time.
 abbrev unlike : List ℕ
 unlike =
-    hex ("0102030405060708 0000007D 11121314 02 03FB2A2E"
+    hex ("0102030405060708 00000090 11121314 02 4E475C5E"
     ∷ "0008 21222324 3132333435363738 4142434445464748 5152535455565758 6162 71727374 00000002"
     ∷ "4A 00 8DA8D6B907 E0C508 06 6B6579 0A 76616C7565 04 02 68 0C 686561646572 04 C3A9 08 666F7572"
-    ∷ "4A 00 D804 03 0E 616E6F74686572 04 00FF 04 10 6E6F2076616C7565 00 00 12 6E6F206B6579206174"
+    ∷ "70 00 D804 03 0E 616E6F74686572 14 00FF206174206C617374 04 10 6E6F2076616C7565 00 16 656C6576656E206B657973 12 6E696E652068657265"
     ∷ [])
 
 abbrev unlikeRecords : List PlainRecord
@@ -424,22 +424,22 @@ unlikeRecords =
       timestampDelta = pos 300;
       offsetDelta = minus 2;
       key = some (text "another");
-      value = some (hex ("00FF" ∷ []));
+      value = some (hex ("00FF206174206C617374" ∷ []));
       headers =
           record { key = text "no value"; value = [] }
-          ∷ record { key = []; value = text "no key at" }
+          ∷ record { key = text "eleven keys"; value = text "nine here" }
           ∷ [];
     }
     ∷ []
 
-abbrev unlikeExample : Example
+abbrev pub unlikeExample : Example
 unlikeExample =
     record {
       bytes = unlike;
       baseOffset = pos 72623859790382856;
-      batchLength = 125;
+      batchLength = 144;
       partitionLeaderEpoch = pos 286397204;
-      crc = 66791982;
+      crc = 1313299550;
       attributes = 8;
       lastOffsetDelta = pos 555885348;
       firstTimestamp = pos 3544952156018063160;
@@ -453,13 +453,13 @@ unlikeExample =
       holds = theRecords unlikeRecords;
       recordRows =
           minus 1000000007 ∷ pos 70000 ∷ pos 72 ∷ pos 3 ∷ pos 76 ∷ pos 5 ∷ pos 0 ∷ pos 2
-          ∷ pos 300 ∷ minus 2 ∷ pos 105 ∷ pos 7 ∷ pos 113 ∷ pos 2 ∷ pos 2 ∷ pos 2
+          ∷ pos 300 ∷ minus 2 ∷ pos 105 ∷ pos 7 ∷ pos 113 ∷ pos 10 ∷ pos 2 ∷ pos 2
           ∷ [];
       headerRows =
           pos 83 ∷ pos 1 ∷ pos 85 ∷ pos 6
           ∷ pos 92 ∷ pos 2 ∷ pos 95 ∷ pos 4
-          ∷ pos 117 ∷ pos 8 ∷ pos 126 ∷ pos 0
-          ∷ pos 127 ∷ pos 0 ∷ pos 128 ∷ pos 9
+          ∷ pos 125 ∷ pos 8 ∷ pos 134 ∷ pos 0
+          ∷ pos 135 ∷ pos 11 ∷ pos 147 ∷ pos 9
           ∷ [];
       times = some (pos 3544952155018063153) ∷ some (pos 3544952156018063460) ∷ [];
       written = unlike;
@@ -467,18 +467,18 @@ unlikeExample =
           pos 72623859790382856 ∷ pos 286397204 ∷ pos 555885348 ∷ pos 3544952156018063160
           ∷ pos 4702394921427289928 ∷ pos 5859837686836516696 ∷ pos 24930 ∷ pos 1903326068
           ∷ pos 1 ∷ pos 0 ∷ pos 0 ∷ pos 2
-          ∷ pos 4 ∷ pos 137 ∷ pos 0 ∷ pos 0
+          ∷ pos 4 ∷ pos 156 ∷ pos 0 ∷ pos 0
           ∷ [];
-      line = text "72623859790382856 137 records 2 4\n";
+      line = text "72623859790382856 156 records 2 4\n";
     }
 
 -- Numbers in more bytes than they need, bits that say nothing, a record that has no time: not canonical.
 abbrev loose : List ℕ
 loose =
-    hex ("0102030405060708 00000050 11121314 02 2BCF93EC"
+    hex ("0102030405060708 00000050 11121314 02 68772E21"
     ∷ "FFD0 21222324 7FFFFFFFFFFFFFFF 4142434445464748 5152535455565758 6162 71727374 00000002"
     ∷ "9600 7F 8200 8000 8100 8000 8000"
-    ∷ "A000 7F 8100 8200 8000 8100 8200 8200 6B 8000"
+    ∷ "A000 7F 8100 8200 8000 8100 8200 8000 8200 6B"
     ∷ [])
 
 abbrev looseRecords : List PlainRecord
@@ -496,19 +496,19 @@ looseRecords =
       key = some [];
       value = none;
       headers =
-          record { key = text "k"; value = [] }
+          record { key = []; value = text "k" }
           ∷ [];
     }
     ∷ []
 
-abbrev looseExample : Example
+abbrev pub looseExample : Example
 looseExample =
     record {
       bytes = loose;
       baseOffset = pos 72623859790382856;
       batchLength = 80;
       partitionLeaderEpoch = pos 286397204;
-      crc = 735024108;
+      crc = 1752641057;
       attributes = 65488;
       lastOffsetDelta = pos 555885348;
       firstTimestamp = pos 9223372036854775807;
@@ -525,13 +525,13 @@ looseExample =
           ∷ minus 1 ∷ pos 1 ∷ pos 83 ∷ pos 0 ∷ pos 0 ∷ minus 1 ∷ pos 0 ∷ pos 1
           ∷ [];
       headerRows =
-          pos 89 ∷ pos 1 ∷ pos 92 ∷ pos 0
+          pos 89 ∷ pos 0 ∷ pos 91 ∷ pos 1
           ∷ [];
       times = none ∷ some (pos 9223372036854775806) ∷ [];
-      written = hex ("0102030405060708 00000042 11121314 02 CF8CD057"
+      written = hex ("0102030405060708 00000042 11121314 02 7686C4CA"
           ∷ "0010 21222324 7FFFFFFFFFFFFFFF 4142434445464748 5152535455565758 6162 71727374 00000002"
           ∷ "0C 00 02 00 01 00 00"
-          ∷ "12 00 01 02 00 01 02 02 6B 00"
+          ∷ "12 00 01 02 00 01 02 00 02 6B"
           ∷ []);
       entries =
           pos 72623859790382856 ∷ pos 286397204 ∷ pos 555885348 ∷ pos 9223372036854775807
@@ -552,7 +552,7 @@ bare =
 abbrev bareRecords : List PlainRecord
 bareRecords = []
 
-abbrev bareExample : Example
+abbrev pub bareExample : Example
 bareExample =
     record {
       bytes = bare;
@@ -594,7 +594,7 @@ committed =
     ∷ "0000 0001"
     ∷ [])
 
-abbrev committedExample : Example
+abbrev pub committedExample : Example
 committedExample =
     record {
       bytes = committed;
@@ -634,7 +634,7 @@ aborted =
     ∷ "0000 0000"
     ∷ [])
 
-abbrev abortedExample : Example
+abbrev pub abortedExample : Example
 abortedExample =
     record {
       bytes = aborted;
@@ -959,6 +959,16 @@ markerRefusals =
       number = 12;
       needed = 0;
     }
+    -- the version is 1, and the marker ends in its type
+    ∷ record {
+      bytes = hex ("0102030405060708 00000034 11121314 02 176BE559"
+          ∷ "0020 21222324 3132333435363738 4142434445464748 5152535455565758 6162 71727374 00000001"
+          ∷ "000100"
+          ∷ []);
+      count = 0;
+      number = 12;
+      needed = 0;
+    }
     -- the type is 2
     ∷ record {
       bytes = hex ("0102030405060708 00000035 11121314 02 3F87DB22"
@@ -1199,11 +1209,11 @@ listings =
     record {
       file = unlike ++ (committed ++ (bare ++ (aborted ++ (hex ("000000" ∷ [])))));
       listing = lines ("base bytes kind records headers\n"
-          ∷ "72623859790382856 137 records 2 4\n"
+          ∷ "72623859790382856 156 records 2 4\n"
           ∷ "72623859790382856 65 commit 0 0\n"
           ∷ "-1 61 records 0 0\n"
           ∷ "-1 65 abort 0 0\n"
-          ∷ "stop 1 at 328\n"
+          ∷ "stop 1 at 347\n"
           ∷ []);
     }
     -- none do

@@ -1,7 +1,7 @@
 -- What is judged to be a batch is one by the format; so the judgement alone is left to compute. Assumes nothing.
 use Prim.Native.Nat.{ℕ, _+_}
 use mathlib.Core.Path.{_≡_, refl, ap, _∙_, subst⁻¹}
-use mathlib.Core.Bool.{Bool, true, false, false≢true}
+use mathlib.Core.Bool.{Bool, true, false}
 use mathlib.Core.List.{List, [], _∷_, _++_, append-nil, map}
 use native.Mathlib.Nat.{zero-add}
 use native.Mathlib.Omega.{arith}
@@ -11,6 +11,7 @@ use lib.ListN.{length, drop}
 use lib.Seq.{drop-length}
 use Rattle.numbers.specs.Bytes.{Bytes}
 use Rattle.numbers.specs.Pick.{pick}
+use Rattle.numbers.proofs.Picks.{both-hold}
 use Rattle.numbers.proofs.AllBytes.{no-bytes, byte-in-front}
 use Rattle.primitives.specs.Stands.{Encoding}
 use Rattle.examples.specs.Examples.{Example}
@@ -29,15 +30,11 @@ unfoldable pub allBytes : List ℕ → Bool
 allBytes [] = true
 allBytes (b ∷ rest) = pick (ltb b 256) (allBytes rest) false
 
-both-true : (a b : Bool) → pick a b false ≡ true → (a ≡ true) × (b ≡ true)
-both-true true b e = (refl, e)
-both-true false b e = absurd (false≢true e)
-
 all-bytes : (s : List ℕ) → allBytes s ≡ true → Bytes s
 unfolding allBytes
 all-bytes [] e = no-bytes
 all-bytes (b ∷ rest) e =
-    let (small, others) = both-true (ltb b 256) (allBytes rest) e in
+    let (small, others) = both-hold (ltb b 256) (allBytes rest) e in
     byte-in-front b rest (ltb-true b 256 small) (all-bytes rest others)
 
 -- ---- what stands in all of a list

@@ -1,0 +1,3 @@
+pub mod Measured
+pub mod Spelled
+pub mod Unlike
