@@ -1,186 +1,219 @@
-//! What is asked of the writer: values of the Rust and the same in tables over a source, and faults
-//! in them.
+//! What is asked of the writer: tables over a source, some of them with wild numbers. The model says
+//! the number, and the Rust the bytes of what it accepts.
 
-use rskafka::protocol::record::{
-    ControlBatchOrRecords, ControlBatchRecord, Record, RecordBatch, RecordBatchCompression,
-    RecordBatchTimestampType, RecordHeader,
-};
+use rskafka::protocol::record::RecordBatchCompression;
 
-use crate::compare::{same, written, Difference};
-use crate::ours::{self, Asked, Entries, Tables, HEADER_ROW, RECORDS, RECORD_ROW};
+use crate::compare::{request, same, Difference};
+use crate::model::writing::{self, Asked};
+use crate::model::{Entries, CODEC_ASKED, HEADER_ROW, RECORDS, RECORD_ROW, SHORT_OUTPUT};
+use crate::ours::{Library, Tables};
 use crate::random::Random;
 use crate::theirs;
 
-/// A batch to be written, for both.
-struct Value {
-    theirs: RecordBatch,
+/// A batch to be written.
+struct Request {
     batch: Entries,
     codec: i64,
     tables: Tables,
     source: Vec<u8>,
 }
 
-impl Value {
+impl Request {
     fn asked(&self) -> Asked<'_> {
-        let Self { batch, codec, tables, source, .. } = self;
-        Asked { batch, codec: *codec, tables, source }
+        let Self { batch, codec, tables: Tables { records, headers }, source } = self;
+        Asked { batch, codec: *codec, records, headers, source }
     }
 }
 
-/// Asks both for a random batch, or for one with a fault; gives document 01's number.
-pub fn ask(random: &mut Random) -> Result<u32, Difference> {
-    let mut value = random_value(random);
-    match random.below(8) {
-        0 => codec_asked(&mut value, random),
-        1 | 2 if !value.tables.records.is_empty() => wrong_row(&mut value, random),
-        3 if !value.tables.headers.is_empty() => not_utf8(&mut value, random),
-        4 => short_output(&value, random),
-        _ => {
-            let bytes = theirs::written(&value.theirs).ok_or("the Rust refuses to write")?;
-            written(&value.asked(), &bytes)?;
-            Ok(ours::ACCEPTED)
-        }
+/// Asks for a random batch, or for one with faults; gives document 01's number.
+pub fn ask(library: &mut Library, random: &mut Random) -> Result<u32, Difference> {
+    let mut wanted = random_request(random);
+    for _ in 0..random.pick(&[0, 0, 0, 1, 1, 1, 2, 3]) {
+        spoil(&mut wanted, random);
     }
-}
-
-/// Any part of the source: spans may overlap.
-fn any_span(source: &[u8], random: &mut Random) -> (i64, i64) {
-    let start = random.below(source.len() + 1);
-    let most = if random.one_in(8) { source.len() } else { 12 };
-    let length = random.below(most.min(source.len() - start) + 1);
-    (start as i64, length as i64)
-}
-
-fn shown(source: &[u8], (start, length): (i64, i64)) -> Vec<u8> {
-    source[start as usize..][..length as usize].to_vec()
-}
-
-fn random_header(source: &mut Vec<u8>, tables: &mut Tables, random: &mut Random) -> RecordHeader {
-    let key = random.text();
-    let key_span = (source.len() as i64, key.len() as i64);
-    source.extend(key.bytes());
-    let value_span = any_span(source, random);
-    tables.headers.extend([key_span.0, key_span.1, value_span.0, value_span.1]);
-    RecordHeader { key, value: shown(source, value_span) }
-}
-
-fn random_record(source: &mut Vec<u8>, tables: &mut Tables, random: &mut Random) -> Record {
-    let mut spans = [(0, -1); 2];
-    for span in &mut spans {
-        if !random.one_in(4) {
-            *span = any_span(source, random);
-        }
-    }
-    let [key, value] = spans.map(|span| (span.1 >= 0).then(|| shown(source, span)));
-    let first_header = (tables.headers.len() / HEADER_ROW) as i64;
-    let header_count = if random.one_in(50) { 64 } else { random.below(3) };
-    let headers = (0..header_count).map(|_| random_header(source, tables, random)).collect();
-    let timestamp_delta = random.number(64);
-    let offset_delta = random.number(32) as i32;
-    let [key_span, value_span] = spans;
-    tables.records.extend([timestamp_delta, offset_delta.into(), key_span.0, key_span.1]);
-    tables.records.extend([value_span.0, value_span.1, first_header, header_count as i64]);
-    Record { timestamp_delta, offset_delta, key, value, headers }
-}
-
-fn random_value(random: &mut Random) -> Value {
-    let size = random.pick(&[0, 1, 20, 70, 200]);
-    let mut source = random.bytes(size);
-    let mut tables = Tables::default();
-    let records = match random.below(8) {
-        0 => ControlBatchOrRecords::ControlBatch(ControlBatchRecord::Abort),
-        1 => ControlBatchOrRecords::ControlBatch(ControlBatchRecord::Commit),
-        count => ControlBatchOrRecords::Records(
-            (2..count).map(|_| random_record(&mut source, &mut tables, random)).collect(),
-        ),
+    let asked = wanted.asked();
+    let written =
+        writing::measure(&asked).ok().and_then(|_| theirs::written(&theirs::value(&asked)));
+    let length = written.as_ref().map_or(64, Vec::len);
+    let room = match random.below(4) {
+        0 => random.below(length),
+        1 => length,
+        _ => length + random.below(9),
     };
-    let theirs = RecordBatch {
-        base_offset: random.number(64),
-        partition_leader_epoch: random.number(32) as i32,
-        last_offset_delta: random.number(32) as i32,
-        first_timestamp: random.number(64),
-        max_timestamp: random.number(64),
-        producer_id: random.number(64),
-        producer_epoch: random.number(16) as i16,
-        base_sequence: random.number(32) as i32,
-        records,
-        compression: RecordBatchCompression::NoCompression,
-        is_transactional: random.one_in(2),
-        timestamp_type: random
-            .pick(&[RecordBatchTimestampType::CreateTime, RecordBatchTimestampType::LogAppendTime]),
-    };
-    let batch = theirs::entries(&theirs, 0);
-    Value { theirs, batch, codec: 0, tables, source }
-}
-
-/// Measuring and writing refuse with this number, and the output is untouched.
-fn refused(value: &Value, number: u32) -> Result<u32, Difference> {
-    let asked = value.asked();
-    same(ours::measure(&asked), (number, 0), "measuring does not refuse")?;
-    let mut output = [0x5A; 64];
-    same(ours::write(&asked, &mut output), (number, 0), "writing does not refuse")?;
-    same(output, [0x5A; 64], "a refusal touches the output")?;
+    let number = request(library, &asked, written.as_deref(), room, random)?;
+    refused_by_the_rust(&asked, number, room, length)?;
     Ok(number)
 }
 
-fn codec_asked(value: &mut Value, random: &mut Random) -> Result<u32, Difference> {
+/// The Rust refuses a codec and an output that is too short as well.
+fn refused_by_the_rust(
+    asked: &Asked,
+    number: u32,
+    room: usize,
+    length: usize,
+) -> Result<(), Difference> {
     use RecordBatchCompression::{Gzip, Lz4, Snappy, Zstd};
-    let codec = random.below(4);
-    value.codec = codec as i64 + 1;
-    value.theirs.compression = [Gzip, Snappy, Lz4, Zstd][codec];
-    same(theirs::written(&value.theirs), None, "the Rust writes what is compressed")?;
-    refused(value, ours::CODEC_ASKED)
+    let plain = Asked { codec: 0, ..*asked };
+    if number == SHORT_OUTPUT {
+        let value = theirs::value(asked);
+        same(theirs::fits(&value, room), false, "the Rust writes to a short output")?;
+        same(theirs::fits(&value, length), true, "the Rust refuses just enough room")?;
+    }
+    if number == CODEC_ASKED && (1..5).contains(&asked.codec) && writing::measure(&plain).is_ok() {
+        let mut value = theirs::value(&plain);
+        value.compression = [Gzip, Snappy, Lz4, Zstd][asked.codec as usize - 1];
+        same(theirs::written(&value), None, "the Rust writes what is compressed")?;
+    }
+    Ok(())
+}
+
+/// Any part of the source: spans may overlap.
+fn any_span(source: &[u8], random: &mut Random) -> [i64; 2] {
+    let start = random.below(source.len() + 1);
+    let most = if random.one_in(8) { source.len() } else { 12 };
+    let length = random.below(most.min(source.len() - start) + 1);
+    [start as i64, length as i64]
+}
+
+fn put_header(source: &mut Vec<u8>, headers: &mut Vec<i64>, random: &mut Random) {
+    let key = random.text();
+    headers.extend([source.len() as i64, key.len() as i64]);
+    source.extend(key.bytes());
+    headers.extend(any_span(source, random));
+}
+
+fn put_record(source: &mut Vec<u8>, tables: &mut Tables, random: &mut Random) {
+    let nullable = |source: &[u8], random: &mut Random| match random.one_in(4) {
+        true => [0, -1],
+        false => any_span(source, random),
+    };
+    let spans = [nullable(source, random), nullable(source, random)];
+    let first_header = (tables.headers.len() / HEADER_ROW) as i64;
+    let header_count = if random.one_in(50) { 64 } else { random.below(3) };
+    (0..header_count).for_each(|_| put_header(source, &mut tables.headers, random));
+    tables.records.extend([random.number(64), random.number(32)]);
+    tables.records.extend(spans.as_flattened());
+    tables.records.extend([first_header, header_count as i64]);
+}
+
+fn random_request(random: &mut Random) -> Request {
+    let size = random.pick(&[0, 1, 20, 70, 200]);
+    let mut source = random.bytes(size);
+    let mut tables = Tables::default();
+    let kind = random.pick(&[0, 0, 0, 0, 0, 0, 1, 2]);
+    let count = if kind == 0 { random.below(6) } else { random.below(2) };
+    (0..count).for_each(|_| put_record(&mut source, &mut tables, random));
+    let mut batch = [0; 16];
+    for (place, bits) in [(0, 64), (1, 32), (2, 32), (3, 64), (4, 64), (5, 64), (6, 16), (7, 32)] {
+        batch[place] = random.number(bits);
+    }
+    batch[8..11].copy_from_slice(&[random.below(2) as i64, random.below(2) as i64, kind]);
+    batch[RECORDS] = count as i64;
+    // The writer looks at neither how many headers nor how many bytes there are.
+    batch[RECORDS + 1..RECORDS + 3].copy_from_slice(&[random.number(64), random.number(64)]);
+    if random.one_in(3) {
+        let [more_records, more_headers] = [12, 6].map(|most| random.below(most));
+        tables.records.extend(random.numbers(more_records));
+        tables.headers.extend(random.numbers(more_headers));
+    }
+    Request { batch, codec: 0, tables, source }
+}
+
+/// A number that is at an edge of something, or any.
+fn wild(request: &Request, random: &mut Random) -> i64 {
+    let end = request.source.len() as i64;
+    let any = random.number(64);
+    let narrow = random.number(32);
+    #[rustfmt::skip]
+    let edges = [
+        0, 1, 2, 3, -1, -2, end - 1, end, end + 1, 1 << 31, (1 << 31) - 1, -(1 << 31), -(1 << 31) - 1, 1 << 32,
+        i64::MIN, i64::MIN + 1, i64::MAX, i64::MAX - end, narrow, any,
+    ];
+    random.pick(&edges)
+}
+
+/// Makes one part wrong, or leaves it right by chance.
+fn spoil(request: &mut Request, random: &mut Random) {
+    let number = wild(request, random);
+    match random.below(12) {
+        0 => request.codec = random.pick(&[1, 2, 3, 4, 5, -1, number]),
+        1 => request.batch[random.below(16)] = number,
+        2 => request.batch[RECORDS] += random.pick(&[1, 1, 2, -1]),
+        3 => {
+            let Tables { records, headers } = &mut request.tables;
+            let table = random.pick(&[0, 1]);
+            let table = [records, headers].into_iter().nth(table).expect("there are two");
+            table.truncate(random.below(table.len() + 1));
+        }
+        4 | 5 => not_utf8(request, random),
+        6 | 7 => wrong_span(request, random),
+        8 => shift_headers(request, random),
+        _ => {
+            let Tables { records, headers } = &mut request.tables;
+            let place = random.below(records.len() + headers.len() + 1);
+            if let Some(wrong) = records.iter_mut().chain(headers).nth(place) {
+                *wrong = number;
+            }
+        }
+    }
 }
 
 /// The Rust's header key is a string, so it has no value with bytes that are no UTF-8.
-fn not_utf8(value: &mut Value, random: &mut Random) -> Result<u32, Difference> {
-    let bytes = random.no_text();
-    same(std::str::from_utf8(&bytes).is_err(), true, "the Rust has this key")?;
-    let row = random.below(value.tables.headers.len() / HEADER_ROW) * HEADER_ROW;
-    value.tables.headers[row] = value.source.len() as i64;
-    value.tables.headers[row + 1] = bytes.len() as i64;
-    value.source.extend(bytes);
-    refused(value, ours::ASKED_NOT_UTF8)
-}
-
-fn short_output(value: &Value, random: &mut Random) -> Result<u32, Difference> {
-    let bytes = theirs::written(&value.theirs).ok_or("the Rust refuses to write")?;
-    let room = random.below(bytes.len());
-    same(theirs::fits(&value.theirs, room), false, "the Rust writes to a short output")?;
-    same(theirs::fits(&value.theirs, bytes.len()), true, "the Rust refuses just enough room")?;
-    let mut output = vec![0x5A; room];
-    let answer = ours::write(&value.asked(), &mut output);
-    same(answer, (ours::SHORT_OUTPUT, 0), "a short output is not refused")?;
-    same(output.iter().all(|&byte| byte == 0x5A), true, "a refusal touches the output")?;
-    Ok(ours::SHORT_OUTPUT)
-}
-
-/// Rows for which the Rust has no value, each by one of document 01's reasons.
-fn wrong_row(value: &mut Value, random: &mut Random) -> Result<u32, Difference> {
-    let Tables { records, headers } = &mut value.tables;
-    let past_end = value.source.len() as i64 + 1;
-    let record = random.below(records.len() / RECORD_ROW) * RECORD_ROW;
-    let place = record + random.pick(&[2, 4]);
-    match random.below(9) {
-        0 => value.batch[RECORDS] += 1,
-        1 => records[place..place + 2].copy_from_slice(&[-1, 1]),
-        2 => records[place..place + 2].copy_from_slice(&[past_end - 1, 1]),
-        3 => records[place..place + 2].copy_from_slice(&[1, -1]),
-        4 => records[place..place + 2].copy_from_slice(&[0, random.pick(&[-2, i64::MIN])]),
-        5 => records[place..place + 2].copy_from_slice(&[i64::MAX, i64::MAX]),
-        6 => records[record + 1] = random.pick(&[1 << 31, -(1 << 31) - 1, i64::MIN, i64::MAX]),
-        7 => records[record + 6] += random.pick(&[1, -1]),
-        _ => wrong_headers(&mut records[record + 7], headers, past_end, random),
+fn not_utf8(request: &mut Request, random: &mut Random) {
+    let Request { tables: Tables { headers, .. }, source, .. } = request;
+    let rows = headers.len() / HEADER_ROW;
+    if rows > 0 {
+        let bytes = random.no_text();
+        let row = random.below(rows) * HEADER_ROW;
+        headers[row..row + 2].copy_from_slice(&[source.len() as i64, bytes.len() as i64]);
+        source.extend(bytes);
     }
-    refused(value, ours::WRONG_ROW)
 }
 
-fn wrong_headers(count: &mut i64, headers: &mut [i64], past_end: i64, random: &mut Random) {
-    if headers.is_empty() || random.one_in(2) {
-        *count = random.pick(&[-1, i64::MIN, headers.len() as i64 + 1, i64::MAX]);
+/// A span of a row by each of document 01's reasons, and at both sides of them.
+fn wrong_span(request: &mut Request, random: &mut Random) {
+    let end = request.source.len() as i64;
+    let Tables { records, headers } = &mut request.tables;
+    let record_places = records.len() / RECORD_ROW * 2;
+    let header_places = headers.len() / HEADER_ROW * 2;
+    if record_places + header_places == 0 {
         return;
     }
-    let place = random.below(headers.len() / 2) * 2;
-    let wrong = random.pick(&[[0, -1], [0, -2], [-1, 0], [past_end, 0], [0, past_end]]);
-    headers[place..place + 2].copy_from_slice(&wrong);
+    #[rustfmt::skip]
+    let spans = [
+        [-1, 1], [end, 1], [end, 0], [end + 1, 0], [0, end], [0, end + 1], [1, -1], [0, -1], [0, -2], [-1, -1],
+        [i64::MAX, i64::MAX], [i64::MAX, 1], [i64::MIN, i64::MAX], [0, i64::MIN],
+    ];
+    let span = random.pick(&spans);
+    let place = random.below(record_places + header_places);
+    let numbers = match place.checked_sub(record_places) {
+        None => &mut records[place / 2 * RECORD_ROW + 2 + place % 2 * 2..],
+        Some(place) => &mut headers[place * 2..],
+    };
+    numbers[..2].copy_from_slice(&span);
+}
+
+/// First header rows that do not run on, and counts of headers that run past their table.
+fn shift_headers(request: &mut Request, random: &mut Random) {
+    let Tables { records, headers } = &mut request.tables;
+    let rows = records.len() / RECORD_ROW;
+    if rows > 0 {
+        let row = random.below(rows) * RECORD_ROW;
+        let past = (headers.len() / HEADER_ROW) as i64 + 1;
+        match random.below(3) {
+            0 => records[row + 6] += random.pick(&[1, -1, past]),
+            1 => records[row + 7] += random.pick(&[1, -1, past]),
+            _ => records[row + 7] = random.pick(&[-1, past, i64::MIN, i64::MAX]),
+        }
+    }
+}
+
+/// Times at every limit: firstTimestamp plus timestampDelta whichever the type, where it fits.
+pub fn time(library: &mut Library, random: &mut Random) -> Result<bool, Difference> {
+    let kind = random.pick(&[0, 0, 1, 1, 2, -1, i64::MIN]);
+    let asked @ [_, first, _, delta] =
+        [kind, random.number(64), random.number(64), random.number(64)];
+    let due = if (0..2).contains(&kind) { first.checked_add(delta) } else { None };
+    same(library.record_time(asked), due, "the time of a record differs")?;
+    Ok(due.is_some())
 }

@@ -1,10 +1,13 @@
-//! Holds one input to the Rust, and to what Oddrafisk promises by itself.
+//! Holds one input, or one request, to the model and to the Rust.
 
 use rskafka::protocol::record::RecordBatch;
 
-use crate::ours::{self, Asked, Entries, Tables, BYTES, HEADERS, HEADER_ROW, RECORDS, RECORD_ROW};
+use crate::model::reading::{self, Reading};
+use crate::model::writing::{self, Asked};
+use crate::model::{crc32c, ACCEPTED, HEADER_ROW, MORE_BYTES, NO_ROOM, RECORD_ROW};
+use crate::ours::{Library, Tables};
 use crate::random::Random;
-use crate::theirs::{self, Answer};
+use crate::theirs::{self, Accepted, Answer};
 
 /// What differs, in words.
 pub type Difference = &'static str;
@@ -12,14 +15,13 @@ pub type Difference = &'static str;
 /// What an input was answered with, by both.
 pub struct Compared {
     pub number: u32,
-    pub theirs: Answer,
+    pub in_domain: bool,
+    /// Whether the Rust accepts it.
+    pub accepted: bool,
     pub canonical: bool,
-    /// Whether it was read with a row too few as well.
+    /// Whether it was read with rows too few as well.
     pub no_room: bool,
 }
-
-/// What stands in lent memory before a call.
-const UNTOUCHED: i64 = 0x5A5A_5A5A_5A5A_5A5A;
 
 pub fn same<T: PartialEq>(one: T, other: T, what: Difference) -> Result<(), Difference> {
     if one == other {
@@ -29,68 +31,107 @@ pub fn same<T: PartialEq>(one: T, other: T, what: Difference) -> Result<(), Diff
     }
 }
 
-pub fn input(bytes: &[u8], random: &mut Random) -> Result<Compared, Difference> {
-    let (number, answer) = ours::check(bytes);
-    let mut tables = roomy(&answer);
-    same(ours::read(bytes, &mut tables), (number, answer), "check and read answer differently")?;
-    let canonical = ours::is_canonical(bytes);
-    let theirs = theirs::read(bytes);
-    let mut short = false;
-    match &theirs {
-        _ if number == ours::BEYOND_LIMITS => refused(bytes, number, &answer, &tables, random)?,
-        Answer::Accepted(accepted) => {
-            same(number, ours::ACCEPTED, "refused here, accepted by the Rust")?;
-            let entries = theirs::entries(&accepted.batch, accepted.consumed);
-            same(answer, entries, "fields, kind, counts or bytes differ")?;
-            rows(&accepted.batch, &tables, bytes)?;
-            short = no_room(bytes, &answer, random)?;
-            let asked = Asked { batch: &answer, codec: 0, tables: &tables, source: bytes };
-            written(&asked, &accepted.written)?;
-        }
-        Answer::Refused | Answer::Panicked => {
-            same(number == ours::ACCEPTED, false, "accepted here, refused by the Rust")?;
-            refused(bytes, number, &answer, &tables, random)?;
-        }
-    }
-    let expected = matches!(&theirs, Answer::Accepted(accepted)
-        if number == ours::ACCEPTED && accepted.is_canonical(bytes));
-    same(canonical, expected.into(), "the canonical check differs")?;
-    Ok(Compared { number, theirs, canonical: expected, no_room: short })
-}
-
-/// Tables with rows to spare and a part of a row, for as many rows as the answer says.
-fn roomy(answer: &Entries) -> Tables {
-    Tables {
-        records: vec![UNTOUCHED; (answer[RECORDS] as usize + 4) * RECORD_ROW + 3],
-        headers: vec![UNTOUCHED; (answer[HEADERS] as usize + 4) * HEADER_ROW + 1],
-    }
-}
-
-fn untouched(numbers: &[i64]) -> Result<(), Difference> {
-    same(numbers.iter().all(|&number| number == UNTOUCHED), true, "a table is touched")
-}
-
-/// A refusal touches no table and has only the entry that it names. From 2 on it stands, whatever
-/// follows.
-fn refused(
+/// All that is answered of these bytes is what the model says, and in the domain what the Rust
+/// says.
+pub fn input(
+    library: &mut Library,
     bytes: &[u8],
-    number: u32,
-    answer: &Entries,
-    tables: &Tables,
+    random: &mut Random,
+) -> Result<Compared, Difference> {
+    let model = reading::read(bytes);
+    let answer = (model.number, model.entries);
+    same(library.check(bytes), answer, "the check is not the model's")?;
+    let canonical = u32::from(model.canonical);
+    same(library.is_canonical(bytes), canonical, "the canonical check is not the model's")?;
+    same(library.crc32c(bytes), crc32c(bytes), "the checksum is not the model's")?;
+    let rooms = any_rooms(&model, random);
+    let number = read(library, bytes, &model, rooms, random)?.0;
+    let theirs = theirs::read(bytes);
+    if let Answer::Panicked = theirs {
+        return Err("the Rust panics");
+    }
+    if model.in_domain() {
+        against_rust(library, bytes, &model, &theirs, random)?;
+    }
+    Ok(Compared {
+        number: model.number,
+        in_domain: model.in_domain(),
+        accepted: matches!(theirs, Answer::Accepted(_)),
+        canonical: model.canonical,
+        no_room: number == NO_ROOM,
+    })
+}
+
+/// Reads with tables of so many numbers, filled with anything: answer and tables are the model's.
+fn read(
+    library: &mut Library,
+    bytes: &[u8],
+    model: &Reading,
+    rooms: [usize; 2],
+    random: &mut Random,
+) -> Result<(u32, Tables), Difference> {
+    let [records, headers] = rooms.map(|room| random.numbers(room));
+    let mut tables = Tables { records, headers };
+    let mut due = tables.clone();
+    let answer = model.with_room(rooms[0], rooms[1]);
+    if answer.0 == ACCEPTED {
+        put_rows(&mut due.records, model.records.as_flattened());
+        put_rows(&mut due.headers, model.headers.as_flattened());
+    }
+    same(library.read(bytes, &mut tables), answer, "the reader's answer is not the model's")?;
+    same(&tables, &due, "the tables are not the model's")?;
+    Ok((answer.0, tables))
+}
+
+fn put_rows(table: &mut [i64], rows: &[i64]) {
+    table[..rows.len()].copy_from_slice(rows);
+}
+
+/// The numbers of tables that are too small, just enough or larger, most with a part of a row.
+fn any_rooms(model: &Reading, random: &mut Random) -> [usize; 2] {
+    let needed = [(model.records.len(), RECORD_ROW), (model.headers.len(), HEADER_ROW)];
+    needed.map(|(rows, row)| {
+        let rows = match random.below(4) {
+            0 => random.below(rows + 1),
+            1 => rows + 1 + random.below(3),
+            _ => rows,
+        };
+        rows * row + random.below(row)
+    })
+}
+
+/// The numbers of tables with rows enough.
+fn rooms_enough(model: &Reading, random: &mut Random) -> [usize; 2] {
+    let needed = [(model.records.len(), RECORD_ROW), (model.headers.len(), HEADER_ROW)];
+    needed.map(|(rows, row)| (rows + random.below(3)) * row + random.below(row))
+}
+
+/// In the domain the Rust accepts and refuses the same, with the same values, and writes the same
+/// bytes for them.
+fn against_rust(
+    library: &mut Library,
+    bytes: &[u8],
+    model: &Reading,
+    theirs: &Answer,
     random: &mut Random,
 ) -> Result<(), Difference> {
-    untouched(&tables.records)?;
-    untouched(&tables.headers)?;
-    let mut named = [0; 16];
-    if number == ours::MORE_BYTES {
-        named[BYTES] = answer[BYTES];
-        same(answer[BYTES] > bytes.len() as i64, true, "no more bytes are asked for")?;
-    } else {
-        same(number <= ours::BYTES_LEFT, true, "a number that the check has not")?;
-        let longer = [bytes, &random.next().to_be_bytes()[..1 + random.below(8)]].concat();
-        same(ours::check(&longer), (number, *answer), "a refusal does not stand")?;
+    let Answer::Accepted(accepted) = theirs else {
+        return same(model.number == ACCEPTED, false, "accepted here, refused by the Rust");
+    };
+    same(model.number, ACCEPTED, "refused here, accepted by the Rust")?;
+    let Accepted { batch, consumed, written } = accepted;
+    let entries = theirs::entries(batch, *consumed);
+    same(model.entries, entries, "fields, kind, counts or bytes differ from the Rust's")?;
+    same(model.canonical, accepted.is_canonical(bytes), "the canonical check is not the Rust's")?;
+    let rooms = rooms_enough(model, random);
+    let (_, tables) = read(library, bytes, model, rooms, random)?;
+    rows(batch, &tables, bytes)?;
+    let Tables { records, headers } = &tables;
+    let asked = Asked { batch: &entries, codec: 0, records, headers, source: bytes };
+    for room in [written.len() + 3, written.len(), written.len() - 1] {
+        request(library, &asked, Some(written), room, random)?;
     }
-    same(*answer, named, "an entry is not zero")
+    Ok(())
 }
 
 /// The span of a row, if it lies in the bytes; null is none.
@@ -103,10 +144,10 @@ fn span(bytes: &[u8], start: i64, length: i64) -> Result<Option<&[u8]>, Differen
     span.map(Some).ok_or("a span lies outside the bytes")
 }
 
+/// The rows show what the Rust has read.
 fn rows(batch: &RecordBatch, tables: &Tables, bytes: &[u8]) -> Result<(), Difference> {
-    let records = theirs::records(batch);
     let mut first_header = 0;
-    for (row, record) in tables.records.chunks(RECORD_ROW).zip(records) {
+    for (row, record) in tables.records.chunks(RECORD_ROW).zip(theirs::records(batch)) {
         same(row[0], record.timestamp_delta, "a timestamp delta differs")?;
         same(row[1], record.offset_delta.into(), "an offset delta differs")?;
         same(span(bytes, row[2], row[3])?, record.key.as_deref(), "a key differs")?;
@@ -122,45 +163,58 @@ fn rows(batch: &RecordBatch, tables: &Tables, bytes: &[u8]) -> Result<(), Differ
         }
         first_header += record.headers.len();
     }
-    untouched(&tables.records[records.len() * RECORD_ROW..])?;
-    untouched(&tables.headers[first_header * HEADER_ROW..])
+    Ok(())
 }
 
-/// Rows too few, in the one table or in the other, give both counts and touch nothing. Says whether
-/// there is a row that could be wanting.
-fn no_room(bytes: &[u8], answer: &Entries, random: &mut Random) -> Result<bool, Difference> {
-    let mut rows = [answer[RECORDS] as usize, answer[HEADERS] as usize];
-    let short = if random.one_in(2) && rows[1] > 0 { 1 } else { 0 };
-    if rows[short] == 0 {
-        return Ok(false);
+/// Measures what is asked, and writes it to an output of so many bytes that are filled with
+/// anything. The model says number and length; what it accepts are these bytes.
+pub fn request(
+    library: &mut Library,
+    asked: &Asked,
+    written: Option<&[u8]>,
+    room: usize,
+    random: &mut Random,
+) -> Result<u32, Difference> {
+    let measured = writing::measure(asked);
+    let length = writing::answer(measured, usize::MAX);
+    same(library.measure(asked), length, "measuring is not the model's")?;
+    let answer = writing::answer(measured, room);
+    let mut output = random.bytes(room);
+    let mut due = output.clone();
+    if answer.0 == ACCEPTED {
+        let written = written.ok_or("the Rust does not write what the model accepts")?;
+        same(written.len() as i64, answer.1, "the Rust's length is not the model's")?;
+        due[..written.len()].copy_from_slice(written);
     }
-    rows[short] -= 1 + random.below(rows[short]);
-    let mut tables = Tables {
-        records: vec![UNTOUCHED; rows[0] * RECORD_ROW + random.below(RECORD_ROW)],
-        headers: vec![UNTOUCHED; rows[1] * HEADER_ROW + random.below(HEADER_ROW)],
-    };
-    let mut counts = [0; 16];
-    counts[RECORDS] = answer[RECORDS];
-    counts[HEADERS] = answer[HEADERS];
-    same(ours::read(bytes, &mut tables), (ours::NO_ROOM, counts), "no room is not answered")?;
-    untouched(&tables.records)?;
-    untouched(&tables.headers)?;
-    Ok(true)
+    same(library.write(asked, &mut output), answer, "the writer's answer is not the model's")?;
+    same(output, due, "the output is not as it should be")?;
+    Ok(answer.0)
 }
 
-/// Oddrafisk writes these bytes for what is asked, and no others, where there is room for them.
-pub fn written(asked: &Asked, expected: &[u8]) -> Result<(), Difference> {
-    const UNTOUCHED: u8 = 0x5A;
-    let length = expected.len();
-    let accepted = (ours::ACCEPTED, length as i64);
-    same(ours::measure(asked), accepted, "the measured length differs")?;
-    let mut output = vec![UNTOUCHED; length + 3];
-    same(ours::write(asked, &mut output), accepted, "the written length differs")?;
-    same(&output[..length], expected, "the written bytes differ")?;
-    same(&output[length..], &[UNTOUCHED; 3], "the output is touched after the batch")?;
-    same(ours::write(asked, &mut output[..length]), accepted, "just enough room is refused")?;
-    output.fill(UNTOUCHED);
-    let short = ours::write(asked, &mut output[..length - 1]);
-    same(short, (ours::SHORT_OUTPUT, 0), "a short output is not refused")?;
-    same(output.iter().all(|&byte| byte == UNTOUCHED), true, "a refusal touches the output")
+/// Demand 3 as a run: what the reader answers of a beginning, but for 1 and 14, it answers of all
+/// the bytes with tables at least as large, with the same rows.
+pub fn stands(
+    library: &mut Library,
+    bytes: &[u8],
+    cut: usize,
+    random: &mut Random,
+) -> Result<Compared, Difference> {
+    let beginning = &bytes[..cut];
+    let rooms = any_rooms(&reading::read(beginning), random);
+    let [records, headers] = rooms.map(|room| random.numbers(room));
+    let mut tables = Tables { records, headers };
+    let mut larger = tables.clone();
+    for table in [&mut larger.records, &mut larger.headers] {
+        let more = random.below(9);
+        table.extend(random.numbers(more));
+    }
+    let mut due = larger.clone();
+    let early = library.read(beginning, &mut tables);
+    if early.0 != MORE_BYTES && early.0 != NO_ROOM {
+        put_rows(&mut due.records, &tables.records);
+        put_rows(&mut due.headers, &tables.headers);
+        same(library.read(bytes, &mut larger), early, "a judgement does not stand")?;
+        same(larger, due, "the rows of a judgement do not stand")?;
+    }
+    input(library, bytes, random)
 }

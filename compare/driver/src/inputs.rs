@@ -1,6 +1,10 @@
 //! The inputs that are compared: all of a kind where that is possible, and random ones.
 
+use std::path::Path;
+
 use crate::damage::{change_bytes, change_part};
+use crate::model::reading;
+use crate::model::{ACCEPTED, BYTES};
 use crate::random::Random;
 use crate::shape::{
     repair, repair_crc, varint, Batch, Body, Coded, Form, Record, Span, BATCH_LENGTH, BODY,
@@ -11,17 +15,31 @@ use crate::shape::{
 pub type Group = fn(&mut dyn FnMut(&[u8]));
 
 /// The groups that have all of their kind.
-pub const GROUPS: [(&str, Group); 10] = [
+pub const GROUPS: [(&str, Group); 14] = [
     ("strings of 0 to 3 bytes", short_strings),
     ("small batches, every beginning", beginnings),
     ("small batches, every batchLength from -20 to 120", batch_lengths),
     ("small batches, every change of a byte", changed_bytes),
     ("small batches, every change of two bytes of the body", changed_pairs),
+    ("small batches, every two damaged places", damaged_pairs),
+    ("small batches, every splice of two", splices),
+    ("producers' logs, from each of their batches on", logs),
+    ("producers' batches, each of their places damaged", damaged_logs),
     ("bodies of 0 to 2 bytes", short_bodies),
     ("attributes and counts", attributes),
     ("markers", markers),
     ("header keys", header_keys),
     ("numbers of varying length", numbers),
+];
+
+/// Random inputs of a kind, one for so many of those that are asked for.
+pub type RandomGroup = (&'static str, usize, fn(&mut Random) -> Vec<u8>);
+
+pub const RANDOM: [RandomGroup; 4] = [
+    ("random inputs", 1, random),
+    ("random splices of two batches", 8, spliced),
+    ("random batches with two damaged places", 8, damaged_twice),
+    ("random batches of many records", 10_000, many_records),
 ];
 
 fn record_with_header(key: &[u8], value: &[u8]) -> Record {
@@ -120,6 +138,113 @@ fn changed_pairs(each: &mut dyn FnMut(&[u8])) {
                 bytes[place..place + 2].copy_from_slice(&pair.to_be_bytes());
                 repair(&mut bytes);
                 each(&bytes);
+            }
+        }
+    }
+}
+
+/// As they are, and as batches with a right length and checksum.
+fn as_is_and_repaired(mut bytes: Vec<u8>, each: &mut dyn FnMut(&[u8])) {
+    each(&bytes);
+    repair(&mut bytes);
+    each(&bytes);
+}
+
+/// Every two places, each with its lowest bit or its highest changed, or made 0 or FF.
+fn damaged_pairs(each: &mut dyn FnMut(&[u8])) {
+    const DAMAGES: [fn(u8) -> u8; 4] = [|byte| byte ^ 1, |byte| byte ^ 0x80, |_| 0, |_| 0xFF];
+    for batch in small() {
+        let right = batch.bytes();
+        for (second, first) in (0..right.len()).flat_map(|at| (0..at).map(move |first| (at, first)))
+        {
+            for (one, other) in DAMAGES.iter().flat_map(|one| DAMAGES.map(|other| (one, other))) {
+                let mut bytes = right.clone();
+                bytes[first] = one(bytes[first]);
+                bytes[second] = other(bytes[second]);
+                as_is_and_repaired(bytes, each);
+            }
+        }
+    }
+}
+
+/// Each beginning of each with each end of each.
+fn splices(each: &mut dyn FnMut(&[u8])) {
+    let all: Vec<Vec<u8>> = small().iter().map(Batch::bytes).collect();
+    for (one, other) in all.iter().flat_map(|one| all.iter().map(move |other| (one, other))) {
+        for cut in 0..=one.len() {
+            for from in 0..=other.len() {
+                as_is_and_repaired([&one[..cut], &other[from..]].concat(), each);
+            }
+        }
+    }
+}
+
+/// The logs of samples/, which real producers made, but for one.
+fn sample_logs() -> Vec<Vec<u8>> {
+    let folder = Path::new(concat!(env!("CARGO_MANIFEST_DIR"), "/../../samples"));
+    let files = folder.read_dir().expect("the repository has samples");
+    let mut logs: Vec<_> = files.map(|file| file.expect("samples/ can be read").path()).collect();
+    logs.retain(|path| path.extension().is_some_and(|ending| ending == "log"));
+    logs.sort();
+    logs.iter().map(|path| std::fs::read(path).expect("a sample can be read")).collect()
+}
+
+/// Where each batch of a log starts, and where it ends. The model reads it, to its end.
+fn batches_of(log: &[u8]) -> Vec<(usize, usize)> {
+    let mut ends = Vec::new();
+    let mut at = 0;
+    while at < log.len() {
+        let read = reading::read(&log[at..]);
+        assert_eq!(read.number, ACCEPTED, "a sample has a batch that is not one, at {at}");
+        let end = at + read.entries[BYTES] as usize;
+        ends.push((at, end));
+        at = end;
+    }
+    ends
+}
+
+fn logs(each: &mut dyn FnMut(&[u8])) {
+    for log in sample_logs() {
+        for (start, end) in batches_of(&log) {
+            each(&log[start..]);
+            each(&log[start..end]);
+        }
+    }
+}
+
+/// A bit of each place changed, with the checksum left and repaired.
+fn damaged_logs(each: &mut dyn FnMut(&[u8])) {
+    for log in sample_logs() {
+        for (start, end) in batches_of(&log) {
+            for place in 0..end - start {
+                let mut bytes = log[start..end].to_vec();
+                bytes[place] ^= 1 << (place % 8);
+                each(&bytes);
+                repair_crc(&mut bytes);
+                each(&bytes);
+            }
+        }
+    }
+}
+
+/// Demand 3's beginnings: each of a batch's, with tails that are no part of it. Of the long ones
+/// of producers only some.
+pub fn beginnings_with_tails(each: &mut dyn FnMut(&[u8], &[u8])) {
+    let mut all: Vec<Vec<u8>> = small().iter().map(Batch::bytes).collect();
+    let others = all.clone();
+    for log in sample_logs() {
+        all.extend(batches_of(&log).into_iter().map(|(start, end)| log[start..end].to_vec()));
+    }
+    for bytes in all {
+        let step = 1 + bytes.len() / 200;
+        for cut in (0..bytes.len()).step_by(step).chain([bytes.len()]) {
+            let left = bytes.len() - cut;
+            let zeros = vec![0; left + 1];
+            let ones = vec![0xFF; left + 1];
+            let mut changed = bytes[cut..].to_vec();
+            changed.iter_mut().take(1).for_each(|byte| *byte ^= 0x55);
+            for tail in [&zeros, &ones, &changed].into_iter().chain(&others) {
+                each(&bytes[..cut], tail);
             }
         }
     }
@@ -241,4 +366,51 @@ pub fn random(random: &mut Random) -> Vec<u8> {
         _ => {}
     }
     bytes
+}
+
+fn any_batch(random: &mut Random) -> Vec<u8> {
+    random.pick(&[Form::Canonical, Form::Free]).batch(random).bytes()
+}
+
+/// The lengths and the checksum are repaired more often than not.
+fn mostly_repaired(mut bytes: Vec<u8>, random: &mut Random) -> Vec<u8> {
+    match random.below(4) {
+        0 => {}
+        1 => repair_crc(&mut bytes),
+        _ => repair(&mut bytes),
+    }
+    bytes
+}
+
+/// A beginning of one batch and an end of another, most of them cut in their bodies.
+fn spliced(random: &mut Random) -> Vec<u8> {
+    let [one, other] = [(); 2].map(|()| any_batch(random));
+    let cut = |bytes: &[u8], random: &mut Random| {
+        let first = if random.one_in(4) { 0 } else { BODY };
+        first + random.below(bytes.len() - first + 1)
+    };
+    let [end, start] = [cut(&one, random), cut(&other, random)];
+    mostly_repaired([&one[..end], &other[start..]].concat(), random)
+}
+
+/// Two places of a batch, which may be the same.
+fn damaged_twice(random: &mut Random) -> Vec<u8> {
+    let mut bytes = any_batch(random);
+    for _ in 0..2 {
+        let place = random.below(bytes.len());
+        let any = random.byte();
+        bytes[place] = random.pick(&[0, 1, 0x7F, 0x80, 0xFF, bytes[place] ^ 1, any]);
+    }
+    mostly_repaired(bytes, random)
+}
+
+/// Some thousand records, in half of them with a part that is wrong.
+fn many_records(random: &mut Random) -> Vec<u8> {
+    let form = random.pick(&[Form::Canonical, Form::Free]);
+    let count = 1000 + random.below(3000);
+    let mut batch = form.batch_of(count, random);
+    if random.one_in(2) {
+        change_part(&mut batch, random);
+    }
+    batch.bytes()
 }

@@ -1,7 +1,8 @@
-//! Compares Oddrafisk with the Rust that it follows:
+//! Compares Oddrafisk with a model of document 01 and with the Rust that it follows:
 //!
 //!     driver compare INPUTS SEED    all inputs of some kinds, and INPUTS random ones
-//!     driver large                  the greatest batch, with 8 GiB of memory
+//!     driver random INPUTS SEED     the random ones alone
+//!     driver large                  the greatest batch, with 16 GiB of memory
 //!     driver store STDIN STDOUT     writes a sample of inputs, and the Rust's answers to them
 
 mod asked;
@@ -9,6 +10,8 @@ mod compare;
 mod damage;
 mod inputs;
 mod large;
+mod lent;
+mod model;
 mod ours;
 mod random;
 mod shape;
@@ -19,6 +22,7 @@ mod theirs;
 use std::error::Error;
 use std::process::ExitCode;
 
+use ours::Library;
 use random::Random;
 use tally::Tally;
 
@@ -35,8 +39,19 @@ fn main() -> ExitCode {
 }
 
 fn run(arguments: &[&str]) -> Result<(), Box<dyn Error>> {
+    lent::watch();
     match arguments {
-        ["compare", inputs, seed] => compare_all(inputs.parse()?, seed.parse()?)?,
+        ["compare", inputs, seed] => {
+            let mut run = Run::new(seed.parse()?);
+            run.all_of_a_kind();
+            run.random(inputs.parse()?);
+            run.tally.print()?;
+        }
+        ["random", inputs, seed] => {
+            let mut run = Run::new(seed.parse()?);
+            run.random(inputs.parse()?);
+            run.tally.print()?;
+        }
         ["large"] => {
             large::by_hand(&mut Random::new(1))?;
             println!("the greatest batch is written and read alike, and a longer one refused");
@@ -46,33 +61,77 @@ fn run(arguments: &[&str]) -> Result<(), Box<dyn Error>> {
             std::fs::write(stdin, framed)?;
             std::fs::write(stdout, answers)?;
         }
-        _ => Err("usage: driver compare INPUTS SEED | large | store STDIN STDOUT")?,
+        _ => Err(
+            "usage: driver compare INPUTS SEED | random INPUTS SEED | large | store STDIN STDOUT",
+        )?,
     }
     Ok(())
 }
 
-fn compare_all(inputs: usize, seed: u64) -> Result<(), &'static str> {
-    println!("seed {seed}");
-    // A panic of the Rust is counted; its message would stand among the figures.
-    std::panic::set_hook(Box::new(|_| {}));
-    let mut random = Random::new(seed);
-    let mut tally = Tally::default();
-    for (name, group) in inputs::GROUPS {
-        tally.group(name);
-        group(&mut |bytes| tally.input(bytes, compare::input(bytes, &mut random)));
+struct Run {
+    library: Library,
+    random: Random,
+    tally: Tally,
+}
+
+impl Run {
+    fn new(seed: u64) -> Self {
+        println!("seed {seed}");
+        // A panic of the Rust is a difference; its message would stand among the figures.
+        std::panic::set_hook(Box::new(|_| {}));
+        Self { library: Library::new(), random: Random::new(seed), tally: Tally::default() }
     }
-    tally.group("random inputs");
-    for _ in 0..inputs {
-        let bytes = inputs::random(&mut random);
-        tally.input(&bytes, compare::input(&bytes, &mut random));
+
+    fn input(&mut self, bytes: &[u8]) {
+        let compared = compare::input(&mut self.library, bytes, &mut self.random);
+        self.tally.input(bytes, compared);
     }
-    tally.group("random batches to be written");
-    for _ in 0..inputs / 8 {
-        tally.asked(asked::ask(&mut random));
+
+    /// A beginning of a batch, with other bytes after it.
+    fn stands(&mut self, beginning: &[u8], tail: &[u8]) {
+        let bytes = [beginning, tail].concat();
+        let cut = beginning.len();
+        let compared = compare::stands(&mut self.library, &bytes, cut, &mut self.random);
+        self.tally.input(&bytes, compared);
     }
-    tally.group("batches about the greatest, to be measured");
-    for number in large::measure(4000, &mut random) {
-        tally.asked(number);
+
+    fn all_of_a_kind(&mut self) {
+        for (name, group) in inputs::GROUPS {
+            self.tally.group(name);
+            group(&mut |bytes| self.input(bytes));
+        }
+        self.tally.group("small batches and producers' ones, every beginning with other tails");
+        inputs::beginnings_with_tails(&mut |beginning, tail| self.stands(beginning, tail));
+        self.tally.group("batches about the greatest, to be measured");
+        for number in large::measure(4000, &mut self.library, &mut self.random) {
+            self.tally.asked(number);
+        }
     }
-    tally.print()
+
+    /// So many random inputs, and a share of them of each other random kind.
+    fn random(&mut self, inputs: usize) {
+        for (name, share, make) in inputs::RANDOM {
+            self.tally.group(name);
+            for _ in 0..inputs / share {
+                let bytes = make(&mut self.random);
+                self.input(&bytes);
+            }
+        }
+        self.tally.group("random beginnings with random tails");
+        for _ in 0..inputs / 8 {
+            let [bytes, tail] = [(); 2].map(|()| inputs::random(&mut self.random));
+            let [end, start] = [&bytes, &tail].map(|all| self.random.below(all.len() + 1));
+            self.stands(&bytes[..end], &tail[start..]);
+        }
+        self.tally.group("random batches to be written, with wild rows");
+        for _ in 0..inputs / 4 {
+            let number = asked::ask(&mut self.library, &mut self.random);
+            self.tally.asked(number);
+        }
+        self.tally.group("random times of records");
+        for _ in 0..inputs / 8 {
+            let told = asked::time(&mut self.library, &mut self.random);
+            self.tally.time(told);
+        }
+    }
 }

@@ -1,119 +1,161 @@
-//! Oddrafisk by its C interface, bindings/c/oddrafisk.h.
+//! Oddrafisk by its C interface, bindings/c/oddrafisk.h, with all that it is lent in guarded memory.
+
+use crate::lent::{about_to_read, Guarded};
+use crate::model::writing::Asked;
+use crate::model::Entries;
 
 #[path = "../../../bindings/rust/src/c.rs"]
 #[allow(dead_code)]
 mod c;
 
-/// The places of a batch's entries that are looked at one by one.
-pub const RECORDS: usize = 11;
-pub const HEADERS: usize = 12;
-pub const BYTES: usize = 13;
-
-pub const RECORD_ROW: usize = 8;
-pub const HEADER_ROW: usize = 4;
-
-/// Document 01's numbers.
-pub const ACCEPTED: u32 = 0;
-pub const MORE_BYTES: u32 = 1;
-pub const BEYOND_LIMITS: u32 = 9;
-pub const BYTES_LEFT: u32 = 13;
-pub const NO_ROOM: u32 = 14;
-pub const CODEC_ASKED: u32 = 20;
-pub const WRONG_ROW: u32 = 21;
-pub const ASKED_NOT_UTF8: u32 = 22;
-pub const TOO_LONG: u32 = 23;
-pub const SHORT_OUTPUT: u32 = 24;
-
-pub type Entries = [i64; 16];
-
 /// Both tables, a row after the other.
-#[derive(Clone, Default, PartialEq)]
+#[derive(Clone, Debug, Default, PartialEq)]
 pub struct Tables {
     pub records: Vec<i64>,
     pub headers: Vec<i64>,
 }
 
-/// What is asked of the writer.
-pub struct Asked<'a> {
-    pub batch: &'a Entries,
-    pub codec: i64,
-    pub tables: &'a Tables,
-    pub source: &'a [u8],
+/// The library, with a piece of memory for each thing that a call is lent.
+pub struct Library {
+    lent: Lent,
+    output: Guarded,
+    answer: Guarded,
 }
 
-pub fn check(bytes: &[u8]) -> (u32, Entries) {
-    let mut answer = [0; 16];
-    // SAFETY: the pointers are those of a slice and of an array, each with its own length.
-    let number = unsafe { c::oddrafisk_check(bytes.as_ptr(), bytes.len(), answer.as_mut_ptr()) };
-    (number, answer)
+struct Lent {
+    bytes: Guarded,
+    batch: Guarded,
+    records: Guarded,
+    headers: Guarded,
 }
 
-pub fn read(bytes: &[u8], tables: &mut Tables) -> (u32, Entries) {
-    let mut answer = [0; 16];
-    let Tables { records, headers } = tables;
-    // SAFETY: as above, and the tables and the answer are borrowed alone.
-    let number = unsafe {
-        c::oddrafisk_read(
-            bytes.as_ptr(),
-            bytes.len(),
-            records.as_mut_ptr(),
-            records.len(),
-            headers.as_mut_ptr(),
-            headers.len(),
-            answer.as_mut_ptr(),
-        )
-    };
-    (number, answer)
+impl Lent {
+    /// What is asked, in memory that can be read alone.
+    fn read_only(&mut self, asked: &Asked) -> Asked<'_> {
+        about_to_read(asked.source);
+        Asked {
+            batch: self.batch.read_only(asked.batch).try_into().expect("sixteen are lent"),
+            codec: asked.codec,
+            records: self.records.read_only(asked.records),
+            headers: self.headers.read_only(asked.headers),
+            source: self.bytes.read_only(asked.source),
+        }
+    }
 }
 
-pub fn measure(asked: &Asked) -> (u32, i64) {
-    let mut answer = 0;
-    let Tables { records, headers } = asked.tables;
-    // SAFETY: as above.
-    let number = unsafe {
-        c::oddrafisk_measure(
-            asked.batch.as_ptr(),
-            asked.codec,
-            records.as_ptr(),
-            records.len(),
-            headers.as_ptr(),
-            headers.len(),
-            asked.source.as_ptr(),
-            asked.source.len(),
-            &mut answer,
-        )
-    };
-    (number, answer)
+/// What an answer holds before a call: what is not named has to be put there.
+const UNANSWERED: i64 = 0x5A5A_5A5A_5A5A_5A5A;
+
+impl Library {
+    pub fn new() -> Self {
+        let [bytes, batch, records, headers, output, answer] = [(); 6].map(|()| Guarded::new());
+        Self { lent: Lent { bytes, batch, records, headers }, output, answer }
+    }
+
+    pub fn check(&mut self, bytes: &[u8]) -> (u32, Entries) {
+        about_to_read(bytes);
+        let bytes = self.lent.bytes.read_only(bytes);
+        let answer = self.answer.writable(&[UNANSWERED; 16]);
+        // SAFETY: the pointers are those of slices, each with its own length.
+        let number =
+            unsafe { c::oddrafisk_check(bytes.as_ptr(), bytes.len(), answer.as_mut_ptr()) };
+        (number, entries(answer))
+    }
+
+    /// The tables are lent as they are, and come back as the library leaves them.
+    pub fn read(&mut self, bytes: &[u8], tables: &mut Tables) -> (u32, Entries) {
+        about_to_read(bytes);
+        let bytes = self.lent.bytes.read_only(bytes);
+        let records = self.lent.records.writable(&tables.records);
+        let headers = self.lent.headers.writable(&tables.headers);
+        let answer = self.answer.writable(&[UNANSWERED; 16]);
+        // SAFETY: as above, and each is memory of its own.
+        let number = unsafe {
+            c::oddrafisk_read(
+                bytes.as_ptr(),
+                bytes.len(),
+                records.as_mut_ptr(),
+                records.len(),
+                headers.as_mut_ptr(),
+                headers.len(),
+                answer.as_mut_ptr(),
+            )
+        };
+        tables.records.copy_from_slice(records);
+        tables.headers.copy_from_slice(headers);
+        (number, entries(answer))
+    }
+
+    pub fn measure(&mut self, asked: &Asked) -> (u32, i64) {
+        let Asked { batch, codec, records, headers, source } = self.lent.read_only(asked);
+        let answer = self.answer.writable(&[UNANSWERED]);
+        // SAFETY: as above.
+        let number = unsafe {
+            c::oddrafisk_measure(
+                batch.as_ptr(),
+                codec,
+                records.as_ptr(),
+                records.len(),
+                headers.as_ptr(),
+                headers.len(),
+                source.as_ptr(),
+                source.len(),
+                answer.as_mut_ptr(),
+            )
+        };
+        (number, answer[0])
+    }
+
+    /// The output is lent as it is, and comes back as the library leaves it.
+    pub fn write(&mut self, asked: &Asked, output: &mut [u8]) -> (u32, i64) {
+        let Asked { batch, codec, records, headers, source } = self.lent.read_only(asked);
+        let lent = self.output.writable(output);
+        let answer = self.answer.writable(&[UNANSWERED]);
+        // SAFETY: as above.
+        let number = unsafe {
+            c::oddrafisk_write(
+                batch.as_ptr(),
+                codec,
+                records.as_ptr(),
+                records.len(),
+                headers.as_ptr(),
+                headers.len(),
+                source.as_ptr(),
+                source.len(),
+                lent.as_mut_ptr(),
+                lent.len(),
+                answer.as_mut_ptr(),
+            )
+        };
+        output.copy_from_slice(lent);
+        (number, answer[0])
+    }
+
+    pub fn is_canonical(&mut self, bytes: &[u8]) -> u32 {
+        about_to_read(bytes);
+        let bytes = self.lent.bytes.read_only(bytes);
+        // SAFETY: as above.
+        unsafe { c::oddrafisk_is_canonical(bytes.as_ptr(), bytes.len()) }
+    }
+
+    pub fn crc32c(&mut self, bytes: &[u8]) -> u32 {
+        about_to_read(bytes);
+        let bytes = self.lent.bytes.read_only(bytes);
+        // SAFETY: as above.
+        unsafe { c::oddrafisk_crc32c(bytes.as_ptr(), bytes.len()) }
+    }
+
+    /// The time of a record, or none.
+    pub fn record_time(&mut self, [kind, first, greatest, delta]: [i64; 4]) -> Option<i64> {
+        let answer = self.answer.writable(&[UNANSWERED]);
+        // SAFETY: as above.
+        let told =
+            unsafe { c::oddrafisk_record_time(kind, first, greatest, delta, answer.as_mut_ptr()) };
+        assert!(told < 2 && (told == 1 || answer[0] == 0), "a time that is none is told");
+        (told == 1).then_some(answer[0])
+    }
 }
 
-pub fn write(asked: &Asked, output: &mut [u8]) -> (u32, i64) {
-    let mut answer = 0;
-    let Tables { records, headers } = asked.tables;
-    // SAFETY: as above, and the output is borrowed alone.
-    let number = unsafe {
-        c::oddrafisk_write(
-            asked.batch.as_ptr(),
-            asked.codec,
-            records.as_ptr(),
-            records.len(),
-            headers.as_ptr(),
-            headers.len(),
-            asked.source.as_ptr(),
-            asked.source.len(),
-            output.as_mut_ptr(),
-            output.len(),
-            &mut answer,
-        )
-    };
-    (number, answer)
-}
-
-pub fn is_canonical(bytes: &[u8]) -> u32 {
-    // SAFETY: as above.
-    unsafe { c::oddrafisk_is_canonical(bytes.as_ptr(), bytes.len()) }
-}
-
-pub fn crc32c(bytes: &[u8]) -> u32 {
-    // SAFETY: as above.
-    unsafe { c::oddrafisk_crc32c(bytes.as_ptr(), bytes.len()) }
+fn entries(answer: &[i64]) -> Entries {
+    answer.try_into().expect("sixteen were lent")
 }

@@ -35,6 +35,10 @@ impl Random {
         (0..count).map(|_| self.byte()).collect()
     }
 
+    pub fn numbers(&mut self, count: usize) -> Vec<i64> {
+        (0..count).map(|_| self.next() as i64).collect()
+    }
+
     /// A signed number of so many bits, more often than not at a boundary.
     pub fn number(&mut self, bits: u32) -> i64 {
         let near = self.below(3) as i64 - 1;

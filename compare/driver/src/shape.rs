@@ -1,7 +1,7 @@
 //! Batches put together part by part after document 01, so that each part can be made wrong by
 //! itself and all the others still be right.
 
-use crate::ours;
+use crate::model::crc32c;
 use crate::random::Random;
 
 /// Where document 01 has the fields that are changed after a batch has been put together.
@@ -97,7 +97,7 @@ pub fn repair_crc(bytes: &mut [u8]) {
     let length =
         i32::from_be_bytes(bytes[BATCH_LENGTH..BATCH_LENGTH + 4].try_into().expect("four"));
     let end = usize::try_from(i64::from(length) + 12).unwrap_or(0).clamp(CHECKED, bytes.len());
-    let crc = ours::crc32c(&bytes[CHECKED..end]);
+    let crc = crc32c(&bytes[CHECKED..end]);
     bytes[CRC..CHECKED].copy_from_slice(&crc.to_be_bytes());
 }
 
@@ -286,6 +286,10 @@ impl Form {
         }
     }
 
+    fn records(self, count: usize, random: &mut Random) -> Body {
+        Body::Records((0..count).map(|_| self.record(random)).collect())
+    }
+
     fn body(self, random: &mut Random) -> Body {
         if random.one_in(8) {
             return Body::Marker([0, random.below(2) as i16]);
@@ -295,12 +299,22 @@ impl Form {
             1..=40 => 0,
             _ => 1 + random.below(3),
         };
-        Body::Records((0..count).map(|_| self.record(random)).collect())
+        self.records(count, random)
     }
 
     /// A batch that is accepted.
     pub fn batch(self, random: &mut Random) -> Batch {
         let body = self.body(random);
+        self.batch_with(body, random)
+    }
+
+    /// A batch of so many records that is accepted.
+    pub fn batch_of(self, count: usize, random: &mut Random) -> Batch {
+        let body = self.records(count, random);
+        self.batch_with(body, random)
+    }
+
+    fn batch_with(self, body: Body, random: &mut Random) -> Batch {
         let mut attributes =
             random.pick(&[0, LOG_APPEND, TRANSACTIONAL, LOG_APPEND | TRANSACTIONAL]);
         if matches!(body, Body::Marker(_)) {

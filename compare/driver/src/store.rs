@@ -4,7 +4,8 @@ use std::collections::BTreeMap;
 use std::fmt::Write;
 
 use crate::inputs;
-use crate::ours::{self, ACCEPTED, BEYOND_LIMITS, BYTES};
+use crate::model::reading;
+use crate::model::{ACCEPTED, BEYOND_LIMITS, BYTES};
 use crate::random::Random;
 use crate::tally::hex;
 use crate::theirs::{self, Accepted, Answer};
@@ -33,7 +34,7 @@ pub fn sample() -> (Vec<u8>, String) {
 }
 
 /// The small batches, and random inputs, so many of each number in the domain. The numbers are
-/// Oddrafisk's: they serve to choose, and are in no answer.
+/// the model's: they serve to choose, and are in no answer.
 fn chosen() -> Vec<Vec<u8>> {
     let mut chosen: Vec<Vec<u8>> = inputs::small().iter().map(|batch| batch.bytes()).collect();
     let mut wanted: BTreeMap<u32, usize> = (1..=13)
@@ -44,7 +45,7 @@ fn chosen() -> Vec<Vec<u8>> {
     let mut random = Random::new(1);
     while !wanted.is_empty() {
         let input = inputs::random(&mut random);
-        let (number, _) = ours::check(&input);
+        let number = reading::read(&input).number;
         if let Some(more) = wanted.get_mut(&number).filter(|_| input.len() <= LONGEST_INPUT) {
             *more -= 1;
             if *more == 0 {

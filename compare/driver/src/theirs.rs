@@ -4,11 +4,13 @@ use std::io::Cursor;
 use std::panic::catch_unwind;
 
 use rskafka::protocol::record::{
-    ControlBatchOrRecords, ControlBatchRecord, Record, RecordBatch, RecordBatchTimestampType,
+    ControlBatchOrRecords, ControlBatchRecord, Record, RecordBatch, RecordBatchCompression,
+    RecordBatchTimestampType, RecordHeader,
 };
 use rskafka::protocol::traits::{ReadType, WriteType};
 
-use crate::ours::Entries;
+use crate::model::writing::Asked;
+use crate::model::{Entries, HEADER_ROW, RECORDS, RECORD_ROW};
 
 /// What the Rust makes of bytes.
 pub enum Answer {
@@ -92,4 +94,54 @@ pub fn entries(batch: &RecordBatch, bytes: usize) -> Entries {
         0,
         0,
     ]
+}
+
+/// The value that rows ask for which the model accepts, but for the codec.
+pub fn value(asked: &Asked) -> RecordBatch {
+    let batch = asked.batch;
+    let [epoch, last_delta, sequence] = [batch[1], batch[2], batch[7]].map(|entry| entry as i32);
+    RecordBatch {
+        base_offset: batch[0],
+        partition_leader_epoch: epoch,
+        last_offset_delta: last_delta,
+        first_timestamp: batch[3],
+        max_timestamp: batch[4],
+        producer_id: batch[5],
+        producer_epoch: batch[6] as i16,
+        base_sequence: sequence,
+        records: content(asked),
+        compression: RecordBatchCompression::NoCompression,
+        is_transactional: batch[9] == 1,
+        timestamp_type: match batch[8] {
+            0 => RecordBatchTimestampType::CreateTime,
+            _ => RecordBatchTimestampType::LogAppendTime,
+        },
+    }
+}
+
+fn content(asked: &Asked) -> ControlBatchOrRecords {
+    let rows = asked.records.chunks_exact(RECORD_ROW).take(asked.batch[RECORDS].max(0) as usize);
+    match asked.batch[10] {
+        0 => ControlBatchOrRecords::Records(rows.map(|row| record(asked, row)).collect()),
+        1 => ControlBatchOrRecords::ControlBatch(ControlBatchRecord::Abort),
+        _ => ControlBatchOrRecords::ControlBatch(ControlBatchRecord::Commit),
+    }
+}
+
+fn record(asked: &Asked, row: &[i64]) -> Record {
+    let shown =
+        |start: i64, length: i64| asked.source[start as usize..][..length as usize].to_vec();
+    let nullable = |start, length| (length >= 0).then(|| shown(start, length));
+    let header = |row: &[i64]| RecordHeader {
+        key: String::from_utf8(shown(row[0], row[1])).expect("the model accepts the key"),
+        value: shown(row[2], row[3]),
+    };
+    let headers = asked.headers.chunks_exact(HEADER_ROW).skip(row[6] as usize);
+    Record {
+        timestamp_delta: row[0],
+        offset_delta: row[1] as i32,
+        key: nullable(row[2], row[3]),
+        value: nullable(row[4], row[5]),
+        headers: headers.take(row[7] as usize).map(header).collect(),
+    }
 }

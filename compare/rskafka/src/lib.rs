@@ -1,6 +1,6 @@
-//! The oracle: the protocol part of the Rust crate that Oddrafisk follows, built unchanged from its
-//! own text with every compression feature off. `compare/prepare` links that text to
-//! target/compare/source.
+//! The oracle: modules of the Rust crate that Oddrafisk follows, unchanged, under this root, which is
+//! ours, with a stand-in for integer-encoding and every compression feature off. `compare/prepare`
+//! links their text to target/compare/source.
 
 #[allow(clippy::all)]
 pub mod protocol;
