@@ -1,5 +1,6 @@
 /* Calls every function of oddrafisk.h and compares what it answers with document 01. It is C11 and C++17. Prints each
- * check that does not hold and how many were made, and fails where one does not hold. */
+ * check that does not hold, how many were made, and as its last line `N passed, M failed`, which counts the functions
+ * below that are named test_; fails where one does not pass. */
 #include "oddrafisk.h"
 
 #include <inttypes.h>
@@ -7,14 +8,14 @@
 #include <stdlib.h>
 #include <string.h>
 
-static unsigned made, failed;
+static unsigned made, broken;
 
 static void expect(int holds, int line, const char *what)
 {
     made++;
     if (holds)
         return;
-    failed++;
+    broken++;
     printf("line %d: %s\n", line, what);
 }
 
@@ -26,8 +27,8 @@ static void expect(int holds, int line, const char *what)
 enum { UNTOUCHED_BYTE = 0xAA };
 #define UNTOUCHED INT64_C(-7777)
 
-/* Tables with room for three rows each, and a part of a fourth. */
-enum { RECORD_ROOM = 3 * ODDRAFISK_RECORD_ROW + 7, HEADER_ROOM = 3 * ODDRAFISK_HEADER_ROW + 3 };
+/* Tables with room for four rows each, and a part of a fifth. */
+enum { RECORD_ROOM = 4 * ODDRAFISK_RECORD_ROW + 7, HEADER_ROOM = 4 * ODDRAFISK_HEADER_ROW + 3 };
 
 typedef struct {
     int64_t records[RECORD_ROOM];
@@ -207,6 +208,128 @@ static void test_sample_written(void)
                            sizeof output - EMPTY_BYTES, length) == 0);
     EXPECT(length[0] == ONE_BYTES);
     EXPECT(memcmp(output, SAMPLE, sizeof SAMPLE) == 0);
+}
+
+/* A batch in which no two fields are alike and no two numbers of a row, so that nothing can be taken for anything else.
+ * Its bytes are put down one by one, by document 01's tables. */
+enum { KNOWN_BYTES = 166 };
+
+static const uint8_t KNOWN[KNOWN_BYTES] = {
+    0x11, 0x12, 0x13, 0x14, 0x15, 0x16, 0x17, 0x18, /* baseOffset */
+    0x00, 0x00, 0x00, 0x9A,                         /* batchLength */
+    0x21, 0x22, 0x23, 0x24,                         /* partitionLeaderEpoch */
+    0x02,                                           /* magic */
+    0x4F, 0xFC, 0x2A, 0x5C,                         /* crc */
+    0x00, 0x08,                                     /* attributes */
+    0x31, 0x32, 0x33, 0x34,                         /* lastOffsetDelta */
+    0x41, 0x42, 0x43, 0x44, 0x45, 0x46, 0x47, 0x48, /* firstTimestamp */
+    0x51, 0x52, 0x53, 0x54, 0x55, 0x56, 0x57, 0x58, /* maxTimestamp */
+    0x61, 0x62, 0x63, 0x64, 0x65, 0x66, 0x67, 0x68, /* producerId */
+    0x71, 0x72,                                     /* producerEpoch */
+    0x0A, 0x0B, 0x0C, 0x0D,                         /* baseSequence */
+    0x00, 0x00, 0x00, 0x02,                         /* record count */
+    /* a record of 29 bytes: attributes, timestampDelta -70000, offsetDelta 300 */
+    0x3A, 0x00, 0xDF, 0xC5, 0x08, 0xD8, 0x04,
+    /* key "key", value "value" */
+    0x06, 0x6B, 0x65, 0x79, 0x0A, 0x76, 0x61, 0x6C, 0x75, 0x65,
+    /* one header: "zone" = "norden" */
+    0x02, 0x08, 0x7A, 0x6F, 0x6E, 0x65, 0x0C, 0x6E, 0x6F, 0x72, 0x64, 0x65, 0x6E,
+    /* a record of 73 bytes: attributes, timestampDelta 5000000000, offsetDelta 40000 */
+    0x92, 0x01, 0x00, 0x80, 0xC8, 0xAF, 0xA0, 0x25, 0x80, 0xF1, 0x04,
+    /* key "cookie2", value "server-7" */
+    0x0E, 0x63, 0x6F, 0x6F, 0x6B, 0x69, 0x65, 0x32, 0x10, 0x73, 0x65, 0x72, 0x76, 0x65, 0x72, 0x2D, 0x37,
+    /* two headers: "größer!" = "0123456789" */
+    0x04, 0x12, 0x67, 0x72, 0xC3, 0xB6, 0xC3, 0x9F, 0x65, 0x72, 0x21,
+    0x14, 0x30, 0x31, 0x32, 0x33, 0x34, 0x35, 0x36, 0x37, 0x38, 0x39,
+    /* and "trace-label" = "ABCDEFGHIJKL" */
+    0x16, 0x74, 0x72, 0x61, 0x63, 0x65, 0x2D, 0x6C, 0x61, 0x62, 0x65, 0x6C,
+    0x18, 0x41, 0x42, 0x43, 0x44, 0x45, 0x46, 0x47, 0x48, 0x49, 0x4A, 0x4B, 0x4C};
+
+/* The rows by which that is read. */
+static const int64_t KNOWN_RECORDS[2 * ODDRAFISK_RECORD_ROW] = {
+    -70000, 300, 69, 3, 73, 5, 0, 1,
+    INT64_C(5000000000), 40000, 103, 7, 111, 8, 1, 2};
+
+static const int64_t KNOWN_HEADERS[3 * ODDRAFISK_HEADER_ROW] = {80, 4, 85, 6, 121, 9, 131, 10, 142, 11, 154, 12};
+
+/* A source that has the same keys and values in another order, and the rows by which they are written from it. */
+static const char KNOWN_SOURCE[] =
+    "some thirteen|ABCDEFGHIJKL|server-7|zone|value|gr\xC3\xB6\xC3\x9F"
+    "er!|cookie2|norden|trace-label|key|0123456789|";
+
+static const int64_t KNOWN_ASKED_RECORDS[2 * ODDRAFISK_RECORD_ROW] = {
+    -70000, 300, 84, 3, 41, 5, 0, 1,
+    INT64_C(5000000000), 40000, 57, 7, 27, 8, 1, 2};
+
+static const int64_t KNOWN_ASKED_HEADERS[3 * ODDRAFISK_HEADER_ROW] = {36, 4, 65, 6, 47, 9, 88, 10, 72, 11, 14, 12};
+
+/* Timestamp type and transactional flag have two values only: the one is 1 and the other 0, then the other way round.
+ * Attributes and checksum follow them. */
+typedef struct {
+    uint8_t attributes;
+    uint8_t crc[4];
+    int64_t entries[ODDRAFISK_ENTRIES];
+} known;
+
+static const known KNOWN_WAYS[2] = {
+    {0x08,
+     {0x4F, 0xFC, 0x2A, 0x5C},
+     {INT64_C(0x1112131415161718), 0x21222324, 0x31323334, INT64_C(0x4142434445464748), INT64_C(0x5152535455565758),
+      INT64_C(0x6162636465666768), 0x7172, 0x0A0B0C0D, 1, 0, 0, 2, 3, 166, 0, 0}},
+    {0x10,
+     {0x45, 0xC1, 0xF7, 0x58},
+     {INT64_C(0x1112131415161718), 0x21222324, 0x31323334, INT64_C(0x4142434445464748), INT64_C(0x5152535455565758),
+      INT64_C(0x6162636465666768), 0x7172, 0x0A0B0C0D, 0, 1, 0, 2, 3, 166, 0, 0}}};
+
+static void put_known(uint8_t *bytes, const known *way)
+{
+    memcpy(bytes, KNOWN, KNOWN_BYTES);
+    memcpy(bytes + 17, way->crc, sizeof way->crc);
+    bytes[22] = way->attributes;
+}
+
+static void test_known_read(void)
+{
+    for (size_t i = 0; i < COUNT(KNOWN_WAYS); i++) {
+        const known *way = &KNOWN_WAYS[i];
+        uint8_t bytes[KNOWN_BYTES + 5];
+        int64_t checked[ODDRAFISK_ENTRIES], read[ODDRAFISK_ENTRIES];
+        tables t;
+        memset(bytes, UNTOUCHED_BYTE, sizeof bytes);
+        put_known(bytes, way);
+        fill(checked, ODDRAFISK_ENTRIES, UNTOUCHED);
+        fill(read, ODDRAFISK_ENTRIES, UNTOUCHED);
+        clear_tables(&t);
+        EXPECT(oddrafisk_check(bytes, sizeof bytes, checked) == 0);
+        EXPECT(same_numbers(checked, way->entries, ODDRAFISK_ENTRIES));
+        EXPECT(oddrafisk_read(bytes, sizeof bytes, t.records, RECORD_ROOM, t.headers, HEADER_ROOM, read) == 0);
+        EXPECT(same_numbers(read, way->entries, ODDRAFISK_ENTRIES));
+        EXPECT(same_numbers(t.records, KNOWN_RECORDS, COUNT(KNOWN_RECORDS)));
+        EXPECT(same_numbers(t.headers, KNOWN_HEADERS, COUNT(KNOWN_HEADERS)));
+        EXPECT(untouched_from(&t, COUNT(KNOWN_RECORDS), COUNT(KNOWN_HEADERS)));
+        EXPECT(oddrafisk_is_canonical(bytes, KNOWN_BYTES) == 1);
+    }
+}
+
+static void test_known_written(void)
+{
+    const uint8_t *source = (const uint8_t *)KNOWN_SOURCE;
+    const size_t source_count = sizeof KNOWN_SOURCE - 1;
+    for (size_t i = 0; i < COUNT(KNOWN_WAYS); i++) {
+        const known *way = &KNOWN_WAYS[i];
+        uint8_t output[KNOWN_BYTES + 5], bytes[KNOWN_BYTES];
+        int64_t measured[1] = {UNTOUCHED}, length[1] = {UNTOUCHED};
+        memset(output, UNTOUCHED_BYTE, sizeof output);
+        put_known(bytes, way);
+        EXPECT(oddrafisk_measure(way->entries, 0, KNOWN_ASKED_RECORDS, COUNT(KNOWN_ASKED_RECORDS), KNOWN_ASKED_HEADERS,
+                                 COUNT(KNOWN_ASKED_HEADERS), source, source_count, measured) == 0);
+        EXPECT(measured[0] == 166);
+        EXPECT(oddrafisk_write(way->entries, 0, KNOWN_ASKED_RECORDS, COUNT(KNOWN_ASKED_RECORDS), KNOWN_ASKED_HEADERS,
+                               COUNT(KNOWN_ASKED_HEADERS), source, source_count, output, sizeof output, length) == 0);
+        EXPECT(length[0] == 166);
+        EXPECT(memcmp(output, bytes, KNOWN_BYTES) == 0);
+        EXPECT(untouched_bytes(output + KNOWN_BYTES, sizeof output - KNOWN_BYTES));
+    }
 }
 
 static void test_truncated(void)
@@ -569,20 +692,30 @@ static void test_canonical(void)
     }
 }
 
+/* Where a time is told, type, first, greatest, delta and time all differ. */
 static void test_record_time(void)
 {
     static const int64_t times[][6] = {
         /* type, first, greatest, delta, whether there is a time, the time */
-        {0, 1000, 1000, -1, 1, 999},
-        {0, 1000, 1000, 0, 1, 1000},
-        {1, 1000, 1000, 0, 1, 1000},
-        {0, INT64_MAX, INT64_MAX, 1, 0, 0},
-        {0, INT64_MAX, INT64_MAX, 0, 1, INT64_MAX},
-        {0, INT64_MIN, INT64_MIN, -1, 0, 0},
-        {0, INT64_MIN, INT64_MIN, INT64_MAX, 1, -1},
-        {2, 1000, 1000, 0, 0, 0},
-        {-1, 1000, 1000, 0, 0, 0},
-        {INT64_MIN, 0, 0, 0, 0, 0}};
+        {0, 1000, 5000, -1, 1, 999},
+        {0, 1000, 5000, 30, 1, 1030},
+        {0, 1000, INT64_MAX, 30, 1, 1030},
+        {0, INT64_MAX - 1, 5000, 1, 1, INT64_MAX},
+        {0, INT64_MAX, 5000, 1, 0, 0},
+        {0, INT64_MIN + 1, 5000, -1, 1, INT64_MIN},
+        {0, INT64_MIN, 5000, -1, 0, 0},
+        {0, INT64_MIN, 5000, INT64_MAX, 1, -1},
+        /* log append time */
+        {1, 1000, 5000, -1, 1, 999},
+        {1, 1000, 5000, 30, 1, 1030},
+        {1, 1000, INT64_MAX, 30, 1, 1030},
+        {1, INT64_MAX, 5000, 2, 0, 0},
+        {1, INT64_MIN, 5000, -1, 0, 0},
+        /* no type */
+        {2, 1000, 5000, 30, 0, 0},
+        {-1, 1000, 5000, 30, 0, 0},
+        {INT64_C(1) << 32, 1000, 5000, 30, 0, 0},
+        {INT64_MIN, 1000, 5000, 30, 0, 0}};
     for (size_t i = 0; i < COUNT(times); i++) {
         const int64_t *time = times[i];
         int64_t answer[1] = {UNTOUCHED};
@@ -623,27 +756,32 @@ static void test_nothing_lent(void)
     EXPECT(number == UNTOUCHED && byte == UNTOUCHED_BYTE);
 }
 
+typedef struct {
+    const char *name;
+    void (*run)(void);
+} test;
+
+#define TEST(name) {#name, test_##name}
+
+static const test TESTS[] = {
+    TEST(constants), TEST(sample_read), TEST(sample_written), TEST(known_read), TEST(known_written), TEST(truncated),
+    TEST(damaged), TEST(edited), TEST(bodies), TEST(reads_back), TEST(no_room), TEST(codecs_and_outputs),
+    TEST(wrong_entries), TEST(wrong_rows), TEST(key_not_utf8), TEST(too_long), TEST(markers), TEST(canonical),
+    TEST(record_time), TEST(crc32c), TEST(nothing_lent)};
+
+/* A test passes where it makes checks and all of them hold. */
 int main(void)
 {
-    test_constants();
-    test_sample_read();
-    test_sample_written();
-    test_truncated();
-    test_damaged();
-    test_edited();
-    test_bodies();
-    test_reads_back();
-    test_no_room();
-    test_codecs_and_outputs();
-    test_wrong_entries();
-    test_wrong_rows();
-    test_key_not_utf8();
-    test_too_long();
-    test_markers();
-    test_canonical();
-    test_record_time();
-    test_crc32c();
-    test_nothing_lent();
-    printf("%u checks, %u failed\n", made, failed);
-    return failed != 0;
+    unsigned passed = 0;
+    for (size_t i = 0; i < COUNT(TESTS); i++) {
+        const unsigned made_before = made, broken_before = broken;
+        TESTS[i].run();
+        if (made > made_before && broken == broken_before)
+            passed++;
+        else
+            printf("failed: %s\n", TESTS[i].name);
+    }
+    printf("%u checks, of which %u do not hold\n", made, broken);
+    printf("%u passed, %u failed\n", passed, (unsigned)COUNT(TESTS) - passed);
+    return passed != COUNT(TESTS);
 }

@@ -308,8 +308,8 @@ impl<'a> Header<'a> {
 /// ```
 /// use oddrafisk::{record_time, TimestampType::CreateTime};
 ///
-/// assert_eq!(record_time(CreateTime, 1000, 1000, -1), Some(999));
-/// assert_eq!(record_time(CreateTime, i64::MAX, i64::MAX, 1), None);
+/// assert_eq!(record_time(CreateTime, 1000, 2000, -1), Some(999));
+/// assert_eq!(record_time(CreateTime, i64::MAX, 2000, 1), None);
 /// ```
 pub fn record_time(
     timestamp_type: TimestampType,

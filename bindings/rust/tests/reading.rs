@@ -269,20 +269,28 @@ fn offsets_and_times_that_leave_64_bits_are_none() {
     assert_eq!(deltas, [(1, -1), (2, -2)]);
 }
 
+/// Where a time is told, first, greatest, delta and time all differ.
 #[test]
 fn record_times_are_the_library_s() {
-    for timestamp_type in [TimestampType::CreateTime, TimestampType::LogAppendTime] {
-        assert_eq!(record_time(timestamp_type, 1000, 1000, 0), Some(1000));
+    use TimestampType::{CreateTime, LogAppendTime};
+    let times = [
+        (CreateTime, 1000, 5000, -1, Some(999)),
+        (CreateTime, 1000, 5000, 30, Some(1030)),
+        (CreateTime, i64::MAX - 1, 5000, 1, Some(i64::MAX)),
+        (CreateTime, i64::MAX, 5000, 1, None),
+        (CreateTime, i64::MIN + 1, 5000, -1, Some(i64::MIN)),
+        (CreateTime, i64::MIN, 5000, -1, None),
+        (LogAppendTime, 1000, 5000, -1, Some(999)),
+        (LogAppendTime, 1000, 5000, 30, Some(1030)),
+        (LogAppendTime, i64::MAX, 5000, 2, None),
+    ];
+    for (timestamp_type, first, greatest, delta, time) in times {
+        assert_eq!(
+            record_time(timestamp_type, first, greatest, delta),
+            time,
+            "{timestamp_type:?} {first} {greatest} {delta}"
+        );
     }
-    assert_eq!(
-        record_time(TimestampType::CreateTime, 1000, 1000, -1),
-        Some(999)
-    );
-    assert_eq!(record_time(TimestampType::CreateTime, i64::MAX, 0, 1), None);
-    assert_eq!(
-        record_time(TimestampType::CreateTime, i64::MIN, 0, -1),
-        None
-    );
 }
 
 #[test]
