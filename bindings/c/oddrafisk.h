@@ -1,28 +1,45 @@
 /* Oddrafisk: a proved reader and writer of Kafka's version 2 record batch, uncompressed.
  *
- * Link liboddrafisk.a. No function here allocates, keeps what it was lent, fails in any other way than by the number
- * that it returns, or needs anything checked before it is called: each answers every value of every parameter. They share
- * no memory but what is lent, so that threads may call them at the same time.
+ * Link liboddrafisk.a, which needs memcpy and memset and no other symbol. No function here allocates, keeps what it was
+ * lent, fails in any other way than by the number that it returns, or needs anything checked before it is called: each
+ * answers every value of every parameter. They share no memory but what is lent, so that threads may call them at the
+ * same time.
  *
  * WHAT THE CALLER OWES, for each call:
  * - A pointer with a count is to that many elements, and a pointer to an array of N to N of them. It is not null, even
  *   where the count is 0, and is aligned for its type.
  * - What a call may change (a parameter that is not const) overlaps nothing else that is lent to that call.
+ * - Nothing that is lent changes during the call, but by the call itself, and nobody else looks at what it may change.
+ *   A call goes over what it is lent more than once, and is proved for what stays the same. Where it changes meanwhile
+ *   no promise holds, not even that nothing else is touched: a batch may be accepted and rows of it be left unfilled.
+ *   Bytes after those that are lent may change, so a log may be appended to while its finished part is lent. What
+ *   another thread or process may change, as a mapped file that is overwritten or cut off, is to be copied first.
+ * - There is room on the stack: a call takes at most 4096 bytes of stack, on x86-64 and on AArch64, beside what memcpy
+ *   and memset take themselves.
+ * - size_t has 64 bits, which is asserted below.
  *
  * ENTRIES OF A BATCH. Sixteen numbers say what a batch is: the reader answers by them, and the writer takes them. The
  * places in them are named below.
  *
  * ROWS. A record row is eight numbers: timestamp delta, offset delta, key start, key length, value start, value length,
  * first header row, number of headers. A header row is four: key start, key length, value start, value length. Starts
- * count from the first byte lent; null is start 0 and length -1, and in a header nothing is null. First header rows run
- * on: each is how many headers the records before it have, even where it has none itself. A table is lent with how many
- * numbers it has, and has as many rows as are whole; what is left over is never touched.
+ * count from the first of the bytes that are read, and in writing from the first of the source; null is start 0 and
+ * length -1, and in a header nothing is null. First header rows run on: each is how many headers the records before it
+ * have, even where it has none itself. A table is lent with how many numbers it has, and has as many rows as are whole;
+ * what is left over is never touched.
  */
 #ifndef ODDRAFISK_H
 #define ODDRAFISK_H
 
 #include <stddef.h>
 #include <stdint.h>
+
+/* C and C++ before 2011 have no such assertion. */
+#if defined __cplusplus && __cplusplus >= 201103L
+static_assert(sizeof(size_t) == 8, "liboddrafisk.a is for processors on which size_t has 64 bits");
+#elif defined __STDC_VERSION__ && __STDC_VERSION__ >= 201112L
+_Static_assert(sizeof(size_t) == 8, "liboddrafisk.a is for processors on which size_t has 64 bits");
+#endif
 
 #ifdef __cplusplus
 extern "C" {
@@ -41,7 +58,7 @@ enum {
     ODDRAFISK_TIMESTAMP_TYPE = 8,   /* 0 create time, 1 log append time */
     ODDRAFISK_IS_TRANSACTIONAL = 9, /* 0 or 1 */
     ODDRAFISK_KIND = 10,            /* ODDRAFISK_KIND_RECORDS, ODDRAFISK_KIND_ABORT or ODDRAFISK_KIND_COMMIT */
-    ODDRAFISK_RECORDS = 11,         /* how many records; a marker has none */
+    ODDRAFISK_RECORDS = 11,         /* how many records; of a marker 0, and not looked at in writing one */
     ODDRAFISK_HEADERS = 12,         /* how many headers all records have together; not looked at in writing */
     ODDRAFISK_BYTES = 13,           /* how many bytes; not looked at in writing */
     ODDRAFISK_ENTRIES = 16          /* how many entries there are; those not named are 0, and are to be 0 in writing */
@@ -81,8 +98,9 @@ enum {
     ODDRAFISK_SHORT_OUTPUT = 24      /* the output is shorter than the batch */
 };
 
-/* What the bytes begin with: returns ODDRAFISK_ACCEPTED or 1 to 13. It needs no tables, and says with RECORDS and HEADERS
- * how many rows oddrafisk_read needs. A return of 2 to 13 stands whatever bytes may follow. */
+/* What the bytes begin with: returns ODDRAFISK_ACCEPTED or 1 to 13. It needs no tables, and where it accepts says with
+ * ODDRAFISK_RECORDS and ODDRAFISK_HEADERS how many rows oddrafisk_read needs. A return other than ODDRAFISK_MORE_BYTES
+ * stands whatever bytes may follow. */
 uint32_t oddrafisk_check(const uint8_t *bytes, size_t bytes_count, int64_t answer[ODDRAFISK_ENTRIES]);
 
 /* The same, and the rows of the batch's records and of their headers in the first rows of both tables; all else in the
@@ -91,19 +109,20 @@ uint32_t oddrafisk_check(const uint8_t *bytes, size_t bytes_count, int64_t answe
 uint32_t oddrafisk_read(const uint8_t *bytes, size_t bytes_count, int64_t *records, size_t records_count, int64_t *headers,
                         size_t headers_count, int64_t answer[ODDRAFISK_ENTRIES]);
 
-/* How many bytes the batch has when it is written: answer[0], where 0 is returned; else 20 to 23 is returned, and answer[0]
- * is 0. It has the entries of `batch`, and where its kind is of records, as many as ODDRAFISK_RECORDS says, from the first
- * rows of both tables; their spans lie in the source. A marker looks at none of these. `codec` other than 0 is refused.
- * ODDRAFISK_WRONG_ROW is an entry that leaves its width, an unknown kind, a count of records below 0, or an entry not named
- * that is not 0; more records than rows; or in a row a span outside the source, a length that its place does not allow,
- * null with a start that is not 0, an offset delta that leaves 32 bits, or headers that do not run on or run past their
- * table. */
+/* How many bytes the batch has when it is written: answer[0], where 0 is returned; else 20 to 23 is returned, and
+ * answer[0] is 0. It has the entries of `batch`, and where its kind is of records, as many as ODDRAFISK_RECORDS says,
+ * from the first rows of both tables; their spans lie in the source. A marker looks at neither that number nor tables
+ * nor source. `codec` other than 0 is refused. ODDRAFISK_WRONG_ROW is an entry that leaves its width, a timestamp type
+ * or a flag that is neither 0 nor 1, an unknown kind, or an entry not named that is not 0; and where the kind is of
+ * records, a count of them below 0, more records than rows, or in a row a span outside the source, a length that its
+ * place does not allow, null with a start that is not 0, an offset delta that leaves 32 bits, a number of headers below
+ * 0, or headers that do not run on or run past their table. */
 uint32_t oddrafisk_measure(const int64_t batch[ODDRAFISK_ENTRIES], int64_t codec, const int64_t *records,
                            size_t records_count, const int64_t *headers, size_t headers_count, const uint8_t *source,
                            size_t source_count, int64_t answer[1]);
 
 /* Writes that batch to the start of the output, and changes no other byte of it. Returns as oddrafisk_measure does, or
- * ODDRAFISK_SHORT_OUTPUT; what is refused leaves the output untouched. */
+ * ODDRAFISK_SHORT_OUTPUT with 0 in answer[0]; what is refused leaves the output untouched. */
 uint32_t oddrafisk_write(const int64_t batch[ODDRAFISK_ENTRIES], int64_t codec, const int64_t *records, size_t records_count,
                          const int64_t *headers, size_t headers_count, const uint8_t *source, size_t source_count,
                          uint8_t *output, size_t output_count, int64_t answer[1]);
@@ -111,9 +130,9 @@ uint32_t oddrafisk_write(const int64_t batch[ODDRAFISK_ENTRIES], int64_t codec, 
 /* 1 where the bytes, all of them, are one batch just as oddrafisk_write gives it, else 0. */
 uint32_t oddrafisk_is_canonical(const uint8_t *bytes, size_t bytes_count);
 
-/* The time of a record with this delta, in a batch with this timestamp type, first and greatest timestamp: returns 1 and
- * the time in answer[0]; or 0, and 0 in answer[0], where there is none, because it leaves 64 bits or the type is neither 0
- * nor 1. */
+/* The time of a record with this delta, in a batch with this timestamp type, first and greatest timestamp: the first
+ * and the delta added up, whichever the type. Returns 1 and the time in answer[0]; or 0, and 0 in answer[0], where
+ * there is none, because the sum leaves 64 bits or the type is neither 0 nor 1. */
 uint32_t oddrafisk_record_time(int64_t timestamp_type, int64_t first_timestamp, int64_t max_timestamp, int64_t delta,
                                int64_t answer[1]);
 

@@ -3,8 +3,10 @@
 //!
 //! What the header asks of a caller is what Rust's references are. A slice is a pointer that is not
 //! null and is aligned, even where it is empty, to as many elements as it says; a `&mut` overlaps
-//! nothing else. The functions keep nothing that they are lent, use no memory but that and their
-//! stack, and answer every value of every parameter.
+//! nothing else; and while they are borrowed nothing changes what a `&` shows, and nobody else looks
+//! at what a `&mut` does. That addresses have 64 bits is held below. The functions keep nothing that
+//! they are lent, use no memory but that and their stack, of which the header says how much, and
+//! answer every value of every parameter.
 
 use crate::c;
 

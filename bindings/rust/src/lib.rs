@@ -16,6 +16,9 @@ pub use writing::{BatchBuilder, NewRecord};
 
 /// CRC-32C (Castagnoli) of the bytes.
 ///
+/// Bytes that may change meanwhile, as those of a mapped file that is written, are to be copied
+/// first: [what a caller owes](crate#what-a-caller-owes).
+///
 /// ```
 /// assert_eq!(oddrafisk::crc32c(b"123456789"), 0xE306_9283);
 /// ```

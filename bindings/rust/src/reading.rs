@@ -53,6 +53,9 @@ impl Error for ReadError {}
 
 /// What the bytes begin with, without its records.
 ///
+/// Bytes that may change meanwhile, as those of a mapped file that is written, are to be copied
+/// first: [what a caller owes](crate#what-a-caller-owes).
+///
 /// ```
 /// let bytes = oddrafisk::BatchBuilder::default().to_vec()?;
 /// let outline = oddrafisk::check(&bytes)?;
@@ -67,6 +70,9 @@ pub fn check(bytes: &[u8]) -> Result<Outline, ReadError> {
 /// Whether the bytes, all of them, are one batch just as [`BatchBuilder`](crate::BatchBuilder)
 /// writes it.
 ///
+/// Bytes that may change meanwhile, as those of a mapped file that is written, are to be copied
+/// first: [what a caller owes](crate#what-a-caller-owes).
+///
 /// ```
 /// let mut bytes = oddrafisk::BatchBuilder::default().to_vec()?;
 /// assert!(oddrafisk::is_canonical(&bytes));
@@ -80,6 +86,9 @@ pub fn is_canonical(bytes: &[u8]) -> bool {
 
 impl<'a> Batch<'a> {
     /// Reads the batch that the bytes begin with. What follows it is not looked at.
+    ///
+    /// Bytes that may change meanwhile, as those of a mapped file that is written, are to be copied
+    /// first: [what a caller owes](crate#what-a-caller-owes).
     pub fn read(bytes: &'a [u8]) -> Result<Self, ReadError> {
         Reader::new().read_owned(bytes)
     }
@@ -112,6 +121,9 @@ impl Reader {
     }
 
     /// Reads the batch that the bytes begin with. What follows it is not looked at.
+    ///
+    /// Bytes that may change meanwhile, as those of a mapped file that is written, are to be copied
+    /// first: [what a caller owes](crate#what-a-caller-owes).
     pub fn read<'a>(&'a mut self, bytes: &'a [u8]) -> Result<Batch<'a>, ReadError> {
         let outline = self.fill(bytes)?;
         Ok(Batch {
@@ -186,6 +198,9 @@ pub struct Log<'a> {
 
 impl<'a> Log<'a> {
     /// The log that these bytes are, from its beginning.
+    ///
+    /// Bytes that may change meanwhile, as those of a mapped file that is written, are to be copied
+    /// first: [what a caller owes](crate#what-a-caller-owes).
     pub fn new(bytes: &'a [u8]) -> Self {
         Log {
             bytes,

@@ -95,6 +95,9 @@ impl BatchBuilder {
 
     /// Writes the batch to the start of the output and returns how many bytes it has. A refusal
     /// changes nothing.
+    ///
+    /// Nobody else may use the output meanwhile, as another process could that maps the same file:
+    /// [what a caller owes](crate#what-a-caller-owes).
     pub fn write(&self, output: &mut [u8]) -> Result<usize, WriteRefusal> {
         write(&self.asked(), output)
     }
