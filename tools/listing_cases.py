@@ -4,11 +4,16 @@ what it prints with what is expected: tools/listing_cases.py [PROGRAM]
 
 Files are put together here, and the expected text of each stands beside it. The samples' is worked out by the decoder
 below, which is held to all the other cases too. Both are written from document 01 alone; nothing of the code under
-test is used. Prints each case that differs, and fails where one does."""
+test is used. The program has to end with status 0 and to leave its standard error empty. Prints each case that
+differs, and fails where one does."""
+import contextlib
 import pathlib
 import subprocess
 import sys
 import time
+
+sys.dont_write_bytecode = True
+from verdict import end
 
 TOP = pathlib.Path(__file__).resolve().parent.parent
 HEADING = "base bytes kind records headers\n"
@@ -284,45 +289,62 @@ def cases():
         yield "%d bytes of 0" % size, bytes(size), None
     yield "65,537 bytes, a batch", of_size(MOST + 1), None
     yield "65,537 bytes, batches and a byte", ONE + of_size(MOST - 69) + b"\x00", None
-    for sample in sorted(TOP.glob("samples/*.log")):
+    samples = sorted(TOP.glob("samples/*.log"))
+    if not samples:
+        sys.exit("samples/ has no log")
+    for sample in samples:
         data = sample.read_bytes()
         yield sample.name, data, listed(data)[len(HEADING):]
         yield sample.name + " without its last byte", data[:-1], listed(data[:-1])[len(HEADING):]
 
 
+def said(started, data=None):
+    """What the program prints, and, below that, what it may not do."""
+    printed, complaint = started.communicate(data)
+    text = printed.decode("ascii", "replace")
+    if complaint or started.returncode:
+        text += "and ends with status %d, on standard error: %s\n" % (started.returncode, complaint)
+    return text
+
+
+def start(program):
+    return subprocess.Popen(program, stdin=subprocess.PIPE, stdout=subprocess.PIPE, stderr=subprocess.PIPE, bufsize=0)
+
+
 def run(program, data):
-    return subprocess.run([program], input=data, capture_output=True).stdout.decode("ascii", "replace")
+    return said(start(program), data)
 
 
 def run_in_parts(program, data):
     """The same where the file comes bit by bit."""
-    started = subprocess.Popen([program], stdin=subprocess.PIPE, stdout=subprocess.PIPE, bufsize=0)
-    for at in range(0, len(data), 4001):
-        started.stdin.write(data[at:at + 4001])
-        time.sleep(0.002)
-    return started.communicate()[0].decode("ascii", "replace")
+    started = start(program)
+    # Where the program has ended early, what it says shows that.
+    with contextlib.suppress(BrokenPipeError):
+        for at in range(0, len(data), 4001):
+            started.stdin.write(data[at:at + 4001])
+            time.sleep(0.002)
+    return said(started)
 
 
 def main():
-    program = sys.argv[1] if 1 < len(sys.argv) else str(TOP / "target/bin/list")
+    program = sys.argv[1:2] or [str(TOP / "tools/program"), "list"]
     counted = differ = 0
 
-    def compare(name, got, due):
+    def compare(name, got, data, due):
         nonlocal counted, differ
         counted += 1
-        if got != due:
+        answers = {"the program": got, "the decoder here": listed(data)}
+        wrong = ["%s says\n%s" % (who, text[-400:]) for who, text in answers.items() if text != due]
+        if wrong:
             differ += 1
-            print("%s: expected\n%s\nand not\n%s" % (name, due[-400:], got[-400:]))
+            print("%s: expected\n%s\nand %s" % (name, due[-400:], "\nand ".join(wrong)))
 
     for name, data, lines in cases():
-        due = TOO_LONG if lines is None else HEADING + lines
-        if listed(data) != due:
-            sys.exit("%s: the decoder here says\n%s" % (name, listed(data)))
-        compare(name, run(program, data), due)
+        compare(name, run(program, data), data, TOO_LONG if lines is None else HEADING + lines)
     for name, data in ("in parts", of_size(MOST)), ("too long, in parts", of_size(MOST + 1)):
-        compare(name, run_in_parts(program, data), listed(data))
+        compare(name, run_in_parts(program, data), data, listed(data))
     print("listing: %d cases, %d differ" % (counted, differ))
-    sys.exit(1 if differ else 0)
+    end(counted - differ, differ)
 
 
 main()

@@ -1,11 +1,13 @@
 #!/usr/bin/python3
 """Holds Oddrafisk to real producers and consumers: compare/producers/run calls it with the programs that it has built.
 
-    check.py DRIVER LIST [RUST]
+    check.py DRIVER [RUST]
 
-Prints who has read what. Fails, and shows the first line that differs, where two readers differ."""
+Prints who has read what. Fails, and shows the first line that differs, where one does not read what is due."""
+import contextlib
 import pathlib
 import sys
+from collections import namedtuple
 
 from kafka.record.legacy_records import LegacyRecordBatchBuilder
 
@@ -16,119 +18,162 @@ import ours
 import python_kafka
 
 TOP = pathlib.Path(__file__).resolve().parent.parent.parent
+sys.path.append(str(TOP / "tools"))
+from verdict import end
+
 UNKNOWN_MAGIC, COMPRESSED, NEGATIVE_LENGTH, UNKNOWN_MARKER = 3, 6, 10, 12
 # An abort marker by sarama 1.22.1, in the form that brokers write: version and type stand in the key of a record.
 BROKERS_MARKER = bytes.fromhex(
     "0000000000000000 00000042 00000000 02 37473112 0030 00000000 0000018bcfe56800 0000018bcfe56801"
     "0000000000002329 0000 ffffffff 00000001 20 00 00 00 08 00000000 0c 000000000005 00")
-# The places of words in the line of a batch, and of the time in the line of a record.
-TIMESTAMP_TYPE, KIND, BYTES, RECORD_TIME = 10, 12, 15, 2
-NOT_COMPARED = "-"
+# What python3-kafka does not tell of samples/pinning.log, worked out from its bytes and kept by the base offset: the
+# lines of the two markers, the first a commit, and the times of the records of a batch whose broker has set the time.
+# Document 01 takes the producer's: the first timestamp is 1731658460100, the deltas are 0, 210 and 480.
+MARKERS = {
+    48224: "read 0 48224 6 0 1731658230019 1731658230019 4012 3 -1 0 1 2 0 0 65 0 0",
+    48227: "read 0 48227 6 0 1731658250777 1731658250777 4012 3 -1 0 1 1 0 0 65 0 0",
+}
+PRODUCERS_TIMES = {48231: (1731658460100, 1731658460310, 1731658460580)}
+# A log, and the lines that are due of its batches and records.
+Log = namedtuple("Log", "data lines")
 
 
-def hold(what, got, due):
+class Ended(Exception):
+    """A test has failed, so that the rest of its set cannot be tried."""
+
+
+class Tests:
+    def __init__(self):
+        self.passed = self.failed = 0
+
+    @contextlib.contextmanager
+    def named(self, name):
+        try:
+            yield
+        except Exception as fault:
+            self.failed += 1
+            print("FAILED: %s: %s: %s" % (name, type(fault).__name__, fault))
+            raise Ended
+        self.passed += 1
+
+
+def hold(got, due):
     """Fails where two lists, or two texts, are not the same."""
-    got, due = (text.splitlines() if isinstance(text, str) else list(text) for text in (got, due))
+    got, due = (text.split("\n") if isinstance(text, str) else list(text) for text in (got, due))
     if got == due:
         return
     at = next((i for i, (a, b) in enumerate(zip(got, due)) if a != b), min(len(got), len(due)))
-    sys.exit("%s: item %d of %d is\n%.300s\nand, of %d, should be\n%.300s" % (
-        what, at, len(got), got[at:at + 1], len(due), due[at:at + 1]))
+    raise ValueError("item %d of %d is\n%.300s\nand, of %d, should be\n%.300s" % (
+        at, len(got), got[at:at + 1], len(due), due[at:at + 1]))
+
+
+def hold_some(*counted):
+    if not all(counted):
+        raise ValueError("there is nothing to read")
 
 
 class Readers:
-    def __init__(self, driver, listing, rust=None):
-        self.library, self.listing = ours.Library(driver), ours.Listing(listing)
+    def __init__(self, tests, driver, rust=None):
+        self.tests, self.library, self.listing = tests, ours.Library(driver), ours.Listing()
         self.rust = rust and ours.Rust(rust)
 
-    def read_all(self, name, logs, due=None):
-        """Each log is read to its end by all, alike, and as `due` says: the lines of all their batches."""
-        count = dict.fromkeys(("canonical", "listed"), 0)
-        lines = []
-        for log in logs:
-            read, canonical, _ = self.library.read(log)
-            hold(name + ", bytes read by the library", [bytes_of(read)], [len(log)])
-            self.hold_others(name, log, read)
-            lines += read
-            count["canonical"] += canonical
-            count["listed"] += len(log) <= ours.LIST_MOST
-        hold(name + ", read by the library", lines, lines if due is None else due)
-        self.say(name, len(logs), lines, count)
-
-    def hold_others(self, name, log, read):
-        """The other readers are held to the lines that the library gives of a log."""
-        due = [line for batch, size in python_kafka.read(log) if batch for line in batches.lines(batch, size)]
-        hold(name + ", by the library, against python3-kafka", comparable(read), comparable(due))
+    def read_all(self, name, logs, others=""):
+        """Each log is read by all as it is due, and is canonical."""
+        records = sum(line.startswith("record ") for log in logs for line in log.lines)
+        count = sum(len(log.lines) for log in logs) - records
+        listed = [log for log in logs if len(log.data) <= ours.LIST_MOST]
+        with self.tests.named(name + ", read by the library"):
+            hold_some(count, records, listed)
+            for log in logs:
+                hold(self.library.read(log.data).lines, log.lines)
+        with self.tests.named(name + ", canonical"):
+            self.hold_canonical(logs)
+        with self.tests.named(name + ", read by list"):
+            for log in listed:
+                hold(self.listing.read(log.data), self.listing.expected(log.lines, len(log.data)))
         if self.rust:
-            hold(name + ", by the Rust, against the library", self.rust.read(log), read)
-        if len(log) <= ours.LIST_MOST:
-            hold(name + ", by list", self.listing.read(log), self.listing.expected(read, len(log)))
+            others += ", the Rust"
+            with self.tests.named(name + ", read by the Rust"):
+                for log in logs:
+                    hold(self.rust.read(log.data), log.lines)
+        print("%s: %d batches, %d records in %d logs, read alike by the library%s, and by list (%d logs); all are"
+              " canonical" % (name, count, records, len(logs), others, len(listed)))
 
-    def say(self, name, logs, lines, count):
-        compared = list(comparable(lines))
-        records = sum(line.startswith("record ") for line in lines)
-        markers = len(lines) - len(compared)
-        untimed = sum(words[0] == "record" and words[RECORD_TIME] == NOT_COMPARED for words in compared)
-        apart = " (but for %d markers, and the times of %d records)" % (markers, untimed) if markers or untimed else ""
-        rust = ", the Rust" if self.rust else ""
-        print("%s: %d batches, %d records in %d logs, read alike by the library, python3-kafka%s%s,"
-              " and by list (%d logs); %d batches are canonical" % (
-                  name, len(lines) - records, records, logs, apart, rust, count["listed"], count["canonical"]))
-
-
-def bytes_of(lines):
-    """How many bytes the batches have together."""
-    return sum(int(line.split()[BYTES]) for line in lines if line.startswith("read "))
-
-
-def comparable(lines):
-    """Without markers, which python3-kafka knows in Kafka's form alone; and without the times of batches whose broker
-    has set the time, since document 01 takes the producer's there too."""
-    log_append = False
-    for line in lines:
-        words = line.split()
-        if words[0] == "read":
-            log_append = words[TIMESTAMP_TYPE] == "1"
-            if words[KIND] != "0":
-                continue
-        elif log_append:
-            words[RECORD_TIME] = NOT_COMPARED
-        yield words
-
-
-def samples():
-    return [path.read_bytes() for path in sorted(TOP.glob("samples/*.log"))]
+    def hold_canonical(self, logs):
+        """The library says so of every batch, and writes what it has read with the same bytes."""
+        for log in logs:
+            read = self.library.read(log.data)
+            hold([read.canonical], [sum(line.startswith("read ") for line in log.lines)])
+            hold([read.written], [log.data])
 
 
 def packed(parts):
-    """Logs of these batches, each as long as `list` takes, where a batch is no longer than that."""
+    """Logs of these batches with their lines, each as long as `list` takes, where a batch is no longer than that."""
     logs = []
-    for data in parts:
-        if logs and len(logs[-1]) + len(data) <= ours.LIST_MOST:
-            logs[-1] += data
+    for data, lines in parts:
+        if logs and len(logs[-1].data) + len(data) <= ours.LIST_MOST:
+            logs[-1] = Log(logs[-1].data + data, logs[-1].lines + lines)
         else:
-            logs.append(data)
+            logs.append(Log(data, lines))
     return logs
 
 
+def asked(made):
+    """The logs of batches that were asked for."""
+    return packed((data, batches.lines(batch, len(data))) for batch, data in made)
+
+
+def read_alike(data):
+    """The lines of a batch that nobody here has asked for: as python3-kafka reads it, and what it does not tell."""
+    batch, base = python_kafka.read_batch(data), int.from_bytes(data[:8], "big")
+    if batch is None:
+        return [MARKERS[base]]
+    if batch.timestamp_type != batches.CREATE_TIME:
+        times = zip(batch.records, PRODUCERS_TIMES[base], strict=True)
+        batch = batch._replace(records=[record._replace(time=time) for record, time in times])
+    return batches.lines(batch, len(data))
+
+
+def samples(readers):
+    name, logs = "samples", []
+    with readers.tests.named(name + ", read by python3-kafka"):
+        for path in sorted(TOP.glob("samples/*.log")):
+            data = path.read_bytes()
+            logs.append(Log(data, [line for batch in batches.split(data) for line in read_alike(batch)]))
+    readers.read_all(name, logs, ", python3-kafka")
+
+
+def by_python_kafka(readers, name, making):
+    """The batches that are made, each with its bytes, once python3-kafka has read them."""
+    with readers.tests.named(name + ", read by python3-kafka"):
+        made = list(making)
+        for batch, data in made:
+            hold(python_kafka.read(data), [(batch, len(data))])
+    return made
+
+
 def from_python_kafka(readers):
-    made = [(batch, python_kafka.made(batch)) for batch in [*cases.all_batches(), cases.with_gaps()]]
-    due = [line for batch, data in made for line in batches.lines(batch, len(data))]
-    readers.read_all("made by python3-kafka", packed(data for _, data in made), due)
-    for batch, data in made:
-        hold("written as python3-kafka writes it", [readers.library.write(batch)], [data])
+    name = "made by python3-kafka"
+    chosen = [*cases.all_batches(), cases.with_gaps()]
+    made = by_python_kafka(readers, name, ((batch, python_kafka.made(batch)) for batch in chosen))
+    readers.read_all(name, asked(made), ", python3-kafka")
+    with readers.tests.named("written as python3-kafka writes it"):
+        for batch, data in made:
+            hold([readers.library.write(batch)], [data])
     print("written by the library: the same bytes as python3-kafka's, %d batches" % len(made))
 
 
-def from_librdkafka(readers, name, **settings):
-    cluster = librdkafka.Cluster(**settings)
+def from_librdkafka(readers, name, idempotent):
     runs = [batch.records for batch in cases.all_batches()]
-    for run in runs:
-        cluster.produce(run)
-    log = cluster.fetch()
-    found = [record for batch, _ in python_kafka.read(log) for record in batch.records]
-    hold(name + ", as sent", found, librdkafka.numbered(runs))
-    readers.read_all(name, packed(batches.split(log)))
+    with readers.tests.named(name + ", read by python3-kafka as sent"):
+        cluster = librdkafka.Cluster(**{"enable.idempotence": idempotent})
+        for run in runs:
+            cluster.produce(run)
+        log = cluster.fetch()
+        found = [batch for batch, _ in python_kafka.read(log)]
+        hold([record for batch in found for record in batch.records], librdkafka.numbered(runs))
+        hold([batch.producer_id != -1 for batch in found], [idempotent] * len(found))
+    readers.read_all(name, packed((data, read_alike(data)) for data in batches.split(log)), ", python3-kafka")
 
 
 def written_batches():
@@ -139,21 +184,22 @@ def written_batches():
         yield batch._replace(base_offset=base, partition_leader_epoch=5, records=records)
 
 
-def by_python_kafka(readers):
-    written = [(batch, readers.library.write(batch)) for batch in written_batches()]
-    for batch, data in written:
-        hold("written by the library, read by python3-kafka", python_kafka.read(data), [(batch, len(data))])
-    due = [line for batch, data in written for line in batches.lines(batch, len(data))]
-    readers.read_all("written by the library", packed(data for _, data in written), due)
+def from_library(readers):
+    name = "written by the library"
+    write = readers.library.write
+    written = by_python_kafka(readers, name, ((batch, write(batch)) for batch in written_batches()))
+    readers.read_all(name, asked(written), ", python3-kafka")
 
 
 def by_librdkafka(readers):
-    cluster = librdkafka.Cluster()
     written = cases.all_batches()
-    for batch in written:
-        cluster.put(readers.library.write(batch))
     due = librdkafka.numbered(batch.records for batch in written)
-    hold("written by the library, read by librdkafka", cluster.consume(len(due)), due)
+    with readers.tests.named("written by the library, read by librdkafka"):
+        hold_some(due)
+        cluster = librdkafka.Cluster()
+        for batch in written:
+            cluster.put(readers.library.write(batch))
+        hold(cluster.consume(len(due)), due)
     print("written by the library: %d batches, %d records, read by librdkafka's consumer, with the same records" % (
         len(written), len(due)))
 
@@ -171,19 +217,26 @@ def refused(readers):
         "sarama's marker": (BROKERS_MARKER, UNKNOWN_MARKER),
     }
     for name, (data, number) in made.items():
-        hold("refused, " + name, readers.library.read(data), ([], 0, number))
+        with readers.tests.named("refused, " + name):
+            hold(readers.library.read(data), ours.Reading([], 0, b"", number))
     print("refused: " + ", ".join("%s by %d" % (n, k) for n, (_, k) in made.items()))
 
 
 def main():
-    readers = Readers(*sys.argv[1:])
-    readers.read_all("samples", samples())
-    from_python_kafka(readers)
-    from_librdkafka(readers, "made by librdkafka")
-    from_librdkafka(readers, "made by librdkafka, idempotent", **{"enable.idempotence": True})
-    by_python_kafka(readers)
-    by_librdkafka(readers)
-    refused(readers)
+    tests = Tests()
+    readers = Readers(tests, *sys.argv[1:])
+    for tried, *words in (
+        (samples,),
+        (from_python_kafka,),
+        (from_librdkafka, "made by librdkafka", False),
+        (from_librdkafka, "made by librdkafka, idempotent", True),
+        (from_library,),
+        (by_librdkafka,),
+        (refused,),
+    ):
+        with contextlib.suppress(Ended):
+            tried(readers, *words)
+    end(tests.passed, tests.failed)
 
 
 main()

@@ -1,8 +1,14 @@
 """Batches read and written by Oddrafisk: by the library, through compare/processors/driver.c, and by the program
 `list`; and batches read by the Rust that it follows, through a program that prints what that driver prints."""
+import pathlib
 import subprocess
 import tempfile
+from collections import namedtuple
 
+TOP = pathlib.Path(__file__).resolve().parent.parent.parent
+# The lines of a log's batches and records, how many batches the library says are canonical, the bytes that it writes of
+# what it has read, and the number that it answers at last.
+Reading = namedtuple("Reading", "lines canonical written number")
 LIST_MOST = 65536
 KINDS = ("records", "abort", "commit")
 
@@ -23,6 +29,12 @@ def accepted(printed):
     return [line for line in printed if line.startswith(("read 0 ", "record "))]
 
 
+def written(printed):
+    """The bytes of each batch that was written."""
+    pairs = zip(printed, printed[1:])
+    return [bytes.fromhex(output.split()[2]) for line, output in pairs if line.startswith("write 0 ")]
+
+
 class Library:
     def __init__(self, driver):
         self.driver = driver
@@ -31,10 +43,9 @@ class Library:
         return with_file(self.driver, text.encode())
 
     def read(self, log):
-        """Lines of batches and records, how many batches are canonical, and the last number that was answered."""
         printed = self.answers("log %s\n" % log.hex().upper())
         numbers = [line.split()[1] for line in printed if line.startswith("check ")]
-        return accepted(printed), printed.count("canonical 1"), int(numbers[-1])
+        return Reading(accepted(printed), printed.count("canonical 1"), b"".join(written(printed)), int(numbers[-1]))
 
     def write(self, batch):
         source, records, headers = b"", [], []
@@ -53,9 +64,7 @@ class Library:
                 headers += *row(key.encode()), *row(value)
         numbers = ((0, *batch[:-1], 0, len(batch.records), 0, 0, 0, 0), records, headers)
         text = "|".join(" ".join(map(str, part)) for part in numbers)
-        printed = self.answers("write %s|%s\n" % (text, source.hex().upper()))
-        written = next(i for i, line in enumerate(printed) if line.startswith("write 0 "))
-        return bytes.fromhex(printed[written + 1].split()[2])
+        return written(self.answers("write %s|%s\n" % (text, source.hex().upper())))[0]
 
 
 class Rust:
@@ -67,16 +76,14 @@ class Rust:
 
 
 class Listing:
-    def __init__(self, program):
-        self.program = program
-
-    def read(self, log):
-        return run([self.program], log)
+    @staticmethod
+    def read(log):
+        return run([TOP / "tools/program", "list"], log)
 
     @staticmethod
-    def expected(read_lines, size):
+    def expected(lines, size):
         """What it prints of a log with these lines, all of which is accepted."""
-        entries = [line.split()[2:] for line in read_lines if line.startswith("read")]
+        entries = [line.split()[2:] for line in lines if line.startswith("read")]
         rows = [(e[0], e[13], KINDS[int(e[10])], e[11], e[12]) for e in entries]
         return "".join(" ".join(row) + "\n" for row in [
             ("base", "bytes", "kind", "records", "headers"), *rows, ("end", "at", str(size))])
