@@ -1,6 +1,6 @@
-/* Readers that are wrong, each in one way: compare/crippled links the comparison's driver with each of them, in the place of
- * the library's own, and the driver has to find it. WRONG names the way. The library's functions are called by other
- * names, since these have theirs. */
+/* Readers that are wrong, each in one way: compare/crippled links the comparison's driver with each of them, in the
+ * place of the library's own, and the driver has to find it. WRONG names the way, or 0 none. The library's functions are
+ * called by other names, since these have theirs. */
 #include "oddrafisk.h"
 
 #include <string.h>
@@ -37,8 +37,8 @@ uint32_t oddrafisk_check(const uint8_t *bytes, size_t bytes_count, int64_t answe
     return cripple(proved_check(bytes, bytes_count, answer), answer);
 }
 
-uint32_t oddrafisk_read(const uint8_t *bytes, size_t bytes_count, int64_t *records, size_t records_count, int64_t *headers,
-                        size_t headers_count, int64_t answer[ODDRAFISK_ENTRIES])
+uint32_t oddrafisk_read(const uint8_t *bytes, size_t bytes_count, int64_t *records, size_t records_count,
+                        int64_t *headers, size_t headers_count, int64_t answer[ODDRAFISK_ENTRIES])
 {
     if (WRONG == ALWAYS_9 || WRONG == ALWAYS_8)
         return cripple(0, answer);
