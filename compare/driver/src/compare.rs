@@ -44,6 +44,11 @@ pub fn input(
     let canonical = u32::from(model.canonical);
     same(library.is_canonical(bytes), canonical, "the canonical check is not the model's")?;
     same(library.crc32c(bytes), crc32c(bytes), "the checksum is not the model's")?;
+    if model.number != MORE_BYTES {
+        let more = random.next().to_be_bytes();
+        let longer = [bytes, &more[..1 + random.below(more.len())]].concat();
+        same(library.check(&longer), answer, "an answer does not stand when bytes are appended")?;
+    }
     let rooms = any_rooms(&model, random);
     let number = read(library, bytes, &model, rooms, random)?.0;
     let theirs = theirs::read(bytes);

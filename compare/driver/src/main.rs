@@ -78,7 +78,12 @@ impl Run {
     fn new(seed: u64) -> Self {
         println!("seed {seed}");
         // A panic of the Rust is a difference; its message would stand among the figures.
-        std::panic::set_hook(Box::new(|_| {}));
+        let told = std::panic::take_hook();
+        std::panic::set_hook(Box::new(move |panic| {
+            if !theirs::is_reading() {
+                told(panic);
+            }
+        }));
         Self { library: Library::new(), random: Random::new(seed), tally: Tally::default() }
     }
 
@@ -100,7 +105,7 @@ impl Run {
             self.tally.group(name);
             group(&mut |bytes| self.input(bytes));
         }
-        self.tally.group("small batches and producers' ones, every beginning with other tails");
+        self.tally.group("beginnings of small and of producers' batches, with other tails");
         inputs::beginnings_with_tails(&mut |beginning, tail| self.stands(beginning, tail));
         self.tally.group("batches about the greatest, to be measured");
         for number in large::measure(4000, &mut self.library, &mut self.random) {

@@ -2,6 +2,7 @@
 
 use std::io::Cursor;
 use std::panic::catch_unwind;
+use std::sync::atomic::{AtomicBool, Ordering::Relaxed};
 
 use rskafka::protocol::record::{
     ControlBatchOrRecords, ControlBatchRecord, Record, RecordBatch, RecordBatchCompression,
@@ -33,13 +34,22 @@ impl Accepted {
     }
 }
 
+static READING: AtomicBool = AtomicBool::new(false);
+
+/// Whether it is the Rust that panics.
+pub fn is_reading() -> bool {
+    READING.load(Relaxed)
+}
+
 pub fn read(bytes: &[u8]) -> Answer {
+    READING.store(true, Relaxed);
     let accepted = catch_unwind(|| {
         let mut cursor = Cursor::new(bytes);
         let batch = RecordBatch::read(&mut cursor).ok()?;
         let written = written(&batch).expect("what was read can be written");
         Some(Accepted { batch, consumed: cursor.position() as usize, written })
     });
+    READING.store(false, Relaxed);
     match accepted {
         Ok(Some(accepted)) => Answer::Accepted(accepted),
         Ok(None) => Answer::Refused,
