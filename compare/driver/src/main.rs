@@ -2,7 +2,7 @@
 //!
 //!     driver compare INPUTS SEED    all inputs of some kinds, and INPUTS random ones
 //!     driver random INPUTS SEED     the random ones alone
-//!     driver large                  the greatest batch, with 16 GiB of memory
+//!     driver large                  the greatest batch, and how much memory that takes
 //!     driver store STDIN STDOUT     writes a sample of inputs, and the Rust's answers to them
 
 mod asked;
@@ -55,6 +55,7 @@ fn run(arguments: &[&str]) -> Result<(), Box<dyn Error>> {
         ["large"] => {
             large::by_hand(&mut Random::new(1))?;
             println!("the greatest batch is written and read alike, and a longer one refused");
+            println!("memory at most, what is lent counted twice: {}", greatest_memory()?);
         }
         ["store", stdin, stdout] => {
             let (framed, answers) = store::sample();
@@ -68,6 +69,13 @@ fn run(arguments: &[&str]) -> Result<(), Box<dyn Error>> {
     Ok(())
 }
 
+/// What Linux says of this process. What is lent is mapped twice, and counts as often.
+fn greatest_memory() -> std::io::Result<String> {
+    let status = std::fs::read_to_string("/proc/self/status")?;
+    let most = status.lines().find_map(|line| line.strip_prefix("VmHWM:"));
+    Ok(most.unwrap_or("not known").trim().to_string())
+}
+
 struct Run {
     library: Library,
     random: Random,
@@ -76,7 +84,7 @@ struct Run {
 
 impl Run {
     fn new(seed: u64) -> Self {
-        println!("seed {seed}");
+        println!("seed {seed}, on {}", std::env::consts::ARCH);
         // A panic of the Rust is a difference; its message would stand among the figures.
         let told = std::panic::take_hook();
         std::panic::set_hook(Box::new(move |panic| {
@@ -113,28 +121,29 @@ impl Run {
         }
     }
 
-    /// So many random inputs, and a share of them of each other random kind.
+    /// So many random inputs, and a share of them of each other random kind, one at least.
     fn random(&mut self, inputs: usize) {
+        let shared = |share: usize| (inputs / share).max(1);
         for (name, share, make) in inputs::RANDOM {
             self.tally.group(name);
-            for _ in 0..inputs / share {
+            for _ in 0..shared(share) {
                 let bytes = make(&mut self.random);
                 self.input(&bytes);
             }
         }
         self.tally.group("random beginnings with random tails");
-        for _ in 0..inputs / 8 {
+        for _ in 0..shared(8) {
             let [bytes, tail] = [(); 2].map(|()| inputs::random(&mut self.random));
             let [end, start] = [&bytes, &tail].map(|all| self.random.below(all.len() + 1));
             self.stands(&bytes[..end], &tail[start..]);
         }
         self.tally.group("random batches to be written, with wild rows");
-        for _ in 0..inputs / 4 {
+        for _ in 0..shared(4) {
             let number = asked::ask(&mut self.library, &mut self.random);
             self.tally.asked(number);
         }
         self.tally.group("random times of records");
-        for _ in 0..inputs / 8 {
+        for _ in 0..shared(8) {
             let told = asked::time(&mut self.library, &mut self.random);
             self.tally.time(told);
         }
