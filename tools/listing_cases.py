@@ -4,10 +4,12 @@ what it prints with what is expected: tools/listing_cases.py [PROGRAM]
 
 Files are put together here, and the expected text of each stands beside it. The samples' is worked out by the decoder
 below, which is held to all the other cases too. Both are written from document 01 alone; nothing of the code under
-test is used. The program has to end with status 0 and to leave its standard error empty. Prints each case that
-differs, and fails where one does."""
+test is used. The program has to leave its standard error empty. Where its standard input cannot be read it has to say
+so there, in one line, and to print nothing. It has to end with status 0, since Rattle gives a program no other. Prints
+each case that differs, and fails where one does."""
 import contextlib
 import pathlib
+import socket
 import subprocess
 import sys
 import time
@@ -18,6 +20,7 @@ from verdict import end
 TOP = pathlib.Path(__file__).resolve().parent.parent
 HEADING = "base bytes kind records headers\n"
 TOO_LONG = "file too long\n"
+UNREADABLE = b"list: standard input cannot be read\n"
 MOST = 65536
 RECORD_ROWS, HEADER_ROWS = 1024, 2048
 
@@ -298,17 +301,21 @@ def cases():
         yield sample.name + " without its last byte", data[:-1], listed(data[:-1])[len(HEADING):]
 
 
-def said(started, data=None):
-    """What the program prints, and, below that, what it may not do."""
-    printed, complaint = started.communicate(data)
+def worded(printed, complaint, status):
+    """What the program prints, and, below that, its complaint and its status, where there is one or the other."""
     text = printed.decode("ascii", "replace")
-    if complaint or started.returncode:
-        text += "and ends with status %d, on standard error: %s\n" % (started.returncode, complaint)
+    if complaint or status:
+        text += "and ends with status %d, on standard error: %s\n" % (status, complaint)
     return text
 
 
-def start(program):
-    return subprocess.Popen(program, stdin=subprocess.PIPE, stdout=subprocess.PIPE, stderr=subprocess.PIPE, bufsize=0)
+def said(started, data=None):
+    printed, complaint = started.communicate(data)
+    return worded(printed, complaint, started.returncode)
+
+
+def start(program, stdin=subprocess.PIPE):
+    return subprocess.Popen(program, stdin=stdin, stdout=subprocess.PIPE, stderr=subprocess.PIPE, bufsize=0)
 
 
 def run(program, data):
@@ -326,23 +333,49 @@ def run_in_parts(program, data):
     return said(started)
 
 
+def run_redirected(program, redirection):
+    """The same where the standard input is what the shell makes of it."""
+    return said(start(["sh", "-c", 'exec "$@" ' + redirection, "sh", *program]))
+
+
+def run_reset(program):
+    """The same where the file comes by a connection that is reset after a whole batch. That is told once: the read
+    after it finds the end."""
+    ours, theirs = socket.socketpair()
+    theirs.sendall(b"never read")
+    ours.sendall(ONE)
+    ours.close()
+    with theirs:
+        return said(start(program, theirs))
+
+
+def unreadable(program):
+    """Standard inputs that cannot be read, each with what the program says."""
+    yield "a folder", run_redirected(program, "</")
+    yield "closed", run_redirected(program, "<&-")
+    yield "opened for writing only", run_redirected(program, "0>/dev/null")
+    yield "a connection that is reset", run_reset(program)
+
+
 def main():
     program = sys.argv[1:2] or [str(TOP / "tools/program"), "list"]
     counted = differ = 0
 
-    def compare(name, got, data, due):
+    def compare(name, answers, due):
         nonlocal counted, differ
         counted += 1
-        answers = {"the program": got, "the decoder here": listed(data)}
         wrong = ["%s says\n%s" % (who, text[-400:]) for who, text in answers.items() if text != due]
         if wrong:
             differ += 1
             print("%s: expected\n%s\nand %s" % (name, due[-400:], "\nand ".join(wrong)))
 
     for name, data, lines in cases():
-        compare(name, run(program, data), data, TOO_LONG if lines is None else HEADING + lines)
+        answers = {"the program": run(program, data), "the decoder here": listed(data)}
+        compare(name, answers, TOO_LONG if lines is None else HEADING + lines)
     for name, data in ("in parts", of_size(MOST)), ("too long, in parts", of_size(MOST + 1)):
-        compare(name, run_in_parts(program, data), data, listed(data))
+        compare(name, {"the program": run_in_parts(program, data)}, listed(data))
+    for name, text in unreadable(program):
+        compare("standard input: " + name, {"the program": text}, worded(b"", UNREADABLE, 0))
     print("listing: %d cases, %d differ" % (counted, differ))
     end(counted - differ, differ)
 
