@@ -13,8 +13,8 @@
 #define BYTES_WRITTEN 6     /* writes to bytes that are lent to be read, what is there */
 
 uint32_t proved_check(const uint8_t *bytes, size_t bytes_count, int64_t answer[ODDRAFISK_ENTRIES]);
-uint32_t proved_read(const uint8_t *bytes, size_t bytes_count, int64_t *records, size_t records_count, int64_t *headers,
-                     size_t headers_count, int64_t answer[ODDRAFISK_ENTRIES]);
+uint32_t proved_read(const uint8_t *bytes, size_t bytes_count, int64_t *records, size_t record_numbers,
+                     int64_t *headers, size_t header_numbers, int64_t answer[ODDRAFISK_ENTRIES]);
 uint32_t proved_is_canonical(const uint8_t *bytes, size_t bytes_count);
 
 /* What is wrong with every answer. */
@@ -37,14 +37,14 @@ uint32_t oddrafisk_check(const uint8_t *bytes, size_t bytes_count, int64_t answe
     return cripple(proved_check(bytes, bytes_count, answer), answer);
 }
 
-uint32_t oddrafisk_read(const uint8_t *bytes, size_t bytes_count, int64_t *records, size_t records_count,
-                        int64_t *headers, size_t headers_count, int64_t answer[ODDRAFISK_ENTRIES])
+uint32_t oddrafisk_read(const uint8_t *bytes, size_t bytes_count, int64_t *records, size_t record_numbers,
+                        int64_t *headers, size_t header_numbers, int64_t answer[ODDRAFISK_ENTRIES])
 {
     if (WRONG == ALWAYS_9 || WRONG == ALWAYS_8)
         return cripple(0, answer);
-    uint32_t number = proved_read(bytes, bytes_count, records, records_count, headers, headers_count, answer);
-    if (WRONG == REMAINDER_TOUCHED && records_count % ODDRAFISK_RECORD_ROW != 0)
-        records[records_count - 1]++;
+    uint32_t number = proved_read(bytes, bytes_count, records, record_numbers, headers, header_numbers, answer);
+    if (WRONG == REMAINDER_TOUCHED && record_numbers % ODDRAFISK_RECORD_ROW != 0)
+        records[record_numbers - 1]++;
     if (WRONG == PAST_THE_BYTES)
         (void)((const volatile uint8_t *)bytes)[bytes_count];
     if (WRONG == BYTES_WRITTEN && bytes_count != 0)

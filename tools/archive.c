@@ -10,7 +10,7 @@ typedef __UINT64_TYPE__ word;
 /* All parameters are words, of which x86-64 passes six in registers. */
 enum { WORDS = 11, STACK = 1 << 14, PAINT = 0xA5, MOST = 1 << 18, ROWS = 1 << 14 };
 
-#define EACH(F) F(check) F(read) F(measure) F(write) F(is_canonical) F(record_time) F(crc32c)
+#define EACH(F) F(check) F(read) F(measure) F(write) F(is_canonical) F(record_time) F(crc32c) F(version)
 #define DECLARED(name) void oddrafisk_##name(void);
 #define PLACED(name) AT_##name,
 #define NAMED(name) "oddrafisk_" #name,
@@ -100,6 +100,7 @@ static void print_used(int which) {
 int run(void) {
     word count = read_log(), place = 0, size = 1;
     memset(stacks, PAINT, sizeof stacks);
+    CALL(version, 0);
     for (; place < count && size; place += size) {
         size = whole(log + place, count - place);
         for (word part = 0; part < size; part += 1 + part / 16) cut_off(log + place, part);

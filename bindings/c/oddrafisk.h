@@ -1,13 +1,13 @@
 /* Oddrafisk: a proved reader and writer of Kafka's version 2 record batch, uncompressed.
  *
- * Link liboddrafisk.a, which needs memcpy and memset and no other symbol. No function here allocates, keeps what it was
- * lent, fails in any other way than by the number that it returns, or needs anything checked before it is called: each
- * answers every value of every parameter. They share no memory but what is lent, so that threads may call them at the
- * same time.
+ * Link liboddrafisk.a, or the shared object that bindings/install makes of it: they need memcpy and memset and no other
+ * symbol. No function here allocates, keeps what it was lent, fails in any other way than by the number that it
+ * returns, or needs anything checked before it is called: each answers every value of every parameter. They share no
+ * memory but what is lent, so that threads may call them at the same time.
  *
  * WHAT THE CALLER OWES, for each call:
  * - A pointer with a count is to that many elements, and a pointer to an array of N to N of them. It is not null, even
- *   where the count is 0, and is aligned for its type.
+ *   where the count is 0, as what malloc(0) gives may be, and is aligned for its type.
  * - What a call may change (a parameter that is not const) overlaps nothing else that is lent to that call.
  * - Nothing that is lent changes during the call, but by the call itself, and nobody else looks at what it may change.
  *   A call goes over what it is lent more than once, and is proved for what stays the same. Where it changes meanwhile
@@ -19,14 +19,16 @@
  * - size_t has 64 bits, which is asserted below.
  *
  * ENTRIES OF A BATCH. Sixteen numbers say what a batch is: the reader answers by them, and the writer takes them. The
- * places in them are named below.
+ * places in them are named below. For producer id, producer epoch and base sequence -1 is "none", and 0 is not: what is
+ * to be written for no producer has -1 in all three.
  *
  * ROWS. A record row is eight numbers: timestamp delta, offset delta, key start, key length, value start, value length,
- * first header row, number of headers. A header row is four: key start, key length, value start, value length. Starts
- * count from the first of the bytes that are read, and in writing from the first of the source; null is start 0 and
- * length -1, and in a header nothing is null. First header rows run on: each is how many headers the records before it
- * have, even where it has none itself. A table is lent with how many numbers it has, and has as many rows as are whole;
- * what is left over is never touched.
+ * first header row, number of headers. A header row is four: key start, key length, value start, value length. The
+ * places in both are named below. Starts count from the first of the bytes that are read, and in writing from the first
+ * of the source; null is start 0 and length -1, and in a header nothing is null. First header rows run on: each is how
+ * many headers the records before it have, even where it has none itself. A table is lent by how many numbers it has,
+ * while entries count rows: ODDRAFISK_RECORD_NUMBERS(rows) and ODDRAFISK_HEADER_NUMBERS(rows) are the numbers of so
+ * many rows. It has as many rows as are whole; what is left over is never touched.
  */
 #ifndef ODDRAFISK_H
 #define ODDRAFISK_H
@@ -45,6 +47,9 @@ _Static_assert(sizeof(size_t) == 8, "liboddrafisk.a is for processors on which s
 extern "C" {
 #endif
 
+/* The version of this header, 0.2.0, as one number: 1.2.3 would be 1002003. */
+#define ODDRAFISK_VERSION 2000
+
 /* The places of a batch's entries. */
 enum {
     ODDRAFISK_BASE_OFFSET = 0,
@@ -52,9 +57,9 @@ enum {
     ODDRAFISK_LAST_OFFSET_DELTA = 2,      /* 32 bits */
     ODDRAFISK_FIRST_TIMESTAMP = 3,
     ODDRAFISK_MAX_TIMESTAMP = 4,
-    ODDRAFISK_PRODUCER_ID = 5,
-    ODDRAFISK_PRODUCER_EPOCH = 6,   /* 16 bits */
-    ODDRAFISK_BASE_SEQUENCE = 7,    /* 32 bits */
+    ODDRAFISK_PRODUCER_ID = 5,      /* -1 is none */
+    ODDRAFISK_PRODUCER_EPOCH = 6,   /* 16 bits; -1 is none */
+    ODDRAFISK_BASE_SEQUENCE = 7,    /* 32 bits; -1 is none */
     ODDRAFISK_TIMESTAMP_TYPE = 8,   /* 0 create time, 1 log append time */
     ODDRAFISK_IS_TRANSACTIONAL = 9, /* 0 or 1 */
     ODDRAFISK_KIND = 10,            /* ODDRAFISK_KIND_RECORDS, ODDRAFISK_KIND_ABORT or ODDRAFISK_KIND_COMMIT */
@@ -64,11 +69,37 @@ enum {
     ODDRAFISK_ENTRIES = 16          /* how many entries there are; those not named are 0, and are to be 0 in writing */
 };
 
-/* Kinds of a batch. */
+/* Kinds of a batch: of records, or a control batch with one of the two markers.
+ *
+ * NOT YET KAFKA'S (request C-16): a marker has the form of the Rust crate rskafka, four bare bytes. What brokers write,
+ * a record whose key has version and type, is refused by ODDRAFISK_UNKNOWN_CONTROL. */
 enum { ODDRAFISK_KIND_RECORDS = 0, ODDRAFISK_KIND_ABORT = 1, ODDRAFISK_KIND_COMMIT = 2 };
 
-/* The numbers in a row of a record, and in a row of a header. */
-enum { ODDRAFISK_RECORD_ROW = 8, ODDRAFISK_HEADER_ROW = 4 };
+/* The places in a row of a record. */
+enum {
+    ODDRAFISK_RECORD_TIMESTAMP_DELTA = 0,
+    ODDRAFISK_RECORD_OFFSET_DELTA = 1, /* 32 bits */
+    ODDRAFISK_RECORD_KEY_START = 2,
+    ODDRAFISK_RECORD_KEY_LENGTH = 3, /* -1 is null */
+    ODDRAFISK_RECORD_VALUE_START = 4,
+    ODDRAFISK_RECORD_VALUE_LENGTH = 5, /* -1 is null */
+    ODDRAFISK_RECORD_FIRST_HEADER = 6, /* a row of the table of headers */
+    ODDRAFISK_RECORD_HEADERS = 7,      /* how many headers the record has */
+    ODDRAFISK_RECORD_ROW = 8           /* how many numbers a row has */
+};
+
+/* The places in a row of a header. */
+enum {
+    ODDRAFISK_HEADER_KEY_START = 0,
+    ODDRAFISK_HEADER_KEY_LENGTH = 1,
+    ODDRAFISK_HEADER_VALUE_START = 2,
+    ODDRAFISK_HEADER_VALUE_LENGTH = 3,
+    ODDRAFISK_HEADER_ROW = 4 /* how many numbers a row has */
+};
+
+/* How many numbers so many rows are. Tables are lent by their numbers, and answers count rows. */
+#define ODDRAFISK_RECORD_NUMBERS(rows) ((size_t)(rows) * ODDRAFISK_RECORD_ROW)
+#define ODDRAFISK_HEADER_NUMBERS(rows) ((size_t)(rows) * ODDRAFISK_HEADER_ROW)
 
 /* What the reader returns. Where an entry is not named, it is 0. */
 enum {
@@ -100,14 +131,27 @@ enum {
 
 /* What the bytes begin with: returns ODDRAFISK_ACCEPTED or 1 to 13. It needs no tables, and where it accepts says with
  * ODDRAFISK_RECORDS and ODDRAFISK_HEADERS how many rows oddrafisk_read needs. A return other than ODDRAFISK_MORE_BYTES
- * stands whatever bytes may follow. */
+ * stands whatever bytes may follow.
+ *
+ * GOING ON AFTER DAMAGE. Lent the first 17 bytes of a batch and no more, it returns ODDRAFISK_MORE_BYTES and in
+ * ODDRAFISK_BYTES how many bytes the whole batch has, which is always above 17; unless these bytes refuse it already,
+ * by 2 or 3, or there are fewer of them, and ODDRAFISK_BYTES is 12 or 17. So one can pass over a batch that is refused
+ * by 4 to 13: the next starts that many bytes after the beginning of this one. Never look byte by byte for the next
+ * place where this function accepts: a value may hold a batch, as a log does that is kept in a record, and that would
+ * be taken for one of this log. The length is not covered by the checksum. Where it is damaged itself, no batch of this
+ * log need begin at the place that it leads to: what stands there is judged as any bytes are, and so may be a batch
+ * inside a value. Go on only where to lose or to misread batches is better than to stop, and hold the base offset of
+ * what comes next to those before. */
 uint32_t oddrafisk_check(const uint8_t *bytes, size_t bytes_count, int64_t answer[ODDRAFISK_ENTRIES]);
 
 /* The same, and the rows of the batch's records and of their headers in the first rows of both tables; all else in the
- * tables is as it was, and every return but ODDRAFISK_ACCEPTED leaves them untouched. Returns ODDRAFISK_ACCEPTED or 1 to
- * 14. Tables need not be cleared first. */
-uint32_t oddrafisk_read(const uint8_t *bytes, size_t bytes_count, int64_t *records, size_t records_count, int64_t *headers,
-                        size_t headers_count, int64_t answer[ODDRAFISK_ENTRIES]);
+ * tables is as it was, and every return but ODDRAFISK_ACCEPTED leaves them untouched. Returns ODDRAFISK_ACCEPTED or 1
+ * to 14. Tables need not be cleared first. They are lent by their numbers and the answer counts rows, so what
+ * oddrafisk_check or ODDRAFISK_NO_ROOM asks for is lent as
+ *     ODDRAFISK_RECORD_NUMBERS(answer[ODDRAFISK_RECORDS]) and ODDRAFISK_HEADER_NUMBERS(answer[ODDRAFISK_HEADERS])
+ * numbers, each of sizeof(int64_t) bytes. */
+uint32_t oddrafisk_read(const uint8_t *bytes, size_t bytes_count, int64_t *records, size_t record_numbers,
+                        int64_t *headers, size_t header_numbers, int64_t answer[ODDRAFISK_ENTRIES]);
 
 /* How many bytes the batch has when it is written: answer[0], where 0 is returned; else 20 to 23 is returned, and
  * answer[0] is 0. It has the entries of `batch`, and where its kind is of records, as many as ODDRAFISK_RECORDS says,
@@ -118,26 +162,65 @@ uint32_t oddrafisk_read(const uint8_t *bytes, size_t bytes_count, int64_t *recor
  * place does not allow, null with a start that is not 0, an offset delta that leaves 32 bits, a number of headers below
  * 0, or headers that do not run on or run past their table. */
 uint32_t oddrafisk_measure(const int64_t batch[ODDRAFISK_ENTRIES], int64_t codec, const int64_t *records,
-                           size_t records_count, const int64_t *headers, size_t headers_count, const uint8_t *source,
+                           size_t record_numbers, const int64_t *headers, size_t header_numbers, const uint8_t *source,
                            size_t source_count, int64_t answer[1]);
 
 /* Writes that batch to the start of the output, and changes no other byte of it. Returns as oddrafisk_measure does, or
  * ODDRAFISK_SHORT_OUTPUT with 0 in answer[0]; what is refused leaves the output untouched. */
-uint32_t oddrafisk_write(const int64_t batch[ODDRAFISK_ENTRIES], int64_t codec, const int64_t *records, size_t records_count,
-                         const int64_t *headers, size_t headers_count, const uint8_t *source, size_t source_count,
-                         uint8_t *output, size_t output_count, int64_t answer[1]);
+uint32_t oddrafisk_write(const int64_t batch[ODDRAFISK_ENTRIES], int64_t codec, const int64_t *records,
+                         size_t record_numbers, const int64_t *headers, size_t header_numbers, const uint8_t *source,
+                         size_t source_count, uint8_t *output, size_t output_count, int64_t answer[1]);
 
 /* 1 where the bytes, all of them, are one batch just as oddrafisk_write gives it, else 0. */
 uint32_t oddrafisk_is_canonical(const uint8_t *bytes, size_t bytes_count);
 
 /* The time of a record with this delta, in a batch with this timestamp type, first and greatest timestamp: the first
  * and the delta added up, whichever the type. Returns 1 and the time in answer[0]; or 0, and 0 in answer[0], where
- * there is none, because the sum leaves 64 bits or the type is neither 0 nor 1. */
+ * there is none, because the sum leaves 64 bits or the type is neither 0 nor 1.
+ *
+ * NOT YET KAFKA'S (request C-12): under log append Kafka takes the batch's greatest timestamp as the time of every
+ * record, and this function adds the delta. */
 uint32_t oddrafisk_record_time(int64_t timestamp_type, int64_t first_timestamp, int64_t max_timestamp, int64_t delta,
                                int64_t answer[1]);
 
 /* CRC-32C (Castagnoli) of the bytes. */
 uint32_t oddrafisk_crc32c(const uint8_t *bytes, size_t bytes_count);
+
+/* The version of what is linked, as ODDRAFISK_VERSION is that of this header. A stale archive may answer by other
+ * entries and other numbers, so a program does well to begin with
+ *     if (oddrafisk_version() != ODDRAFISK_VERSION) abort(); */
+uint32_t oddrafisk_version(void);
+
+/* Plain words for a number that the reader or the writer returns. C before 1999 has no inline functions, and not this
+ * one. */
+#if defined __cplusplus || (defined __STDC_VERSION__ && __STDC_VERSION__ >= 199901L)
+static inline const char *oddrafisk_words(uint32_t number)
+{
+    switch (number) {
+    case ODDRAFISK_ACCEPTED: return "accepted";
+    case ODDRAFISK_MORE_BYTES: return "more bytes are needed";
+    case ODDRAFISK_LENGTH_TOO_SMALL: return "the length of the batch is too small";
+    case ODDRAFISK_UNKNOWN_MAGIC: return "the magic byte is not 2";
+    case ODDRAFISK_CHECKSUM_DIFFERS: return "the checksum differs";
+    case ODDRAFISK_UNKNOWN_CODEC: return "the codec is unknown";
+    case ODDRAFISK_COMPRESSED: return "the records are compressed";
+    case ODDRAFISK_WRONG_COUNT: return "the count of records is wrong";
+    case ODDRAFISK_PAST_END: return "a field runs past its end";
+    case ODDRAFISK_BEYOND_LIMITS: return "a number of varying length is too long or too large";
+    case ODDRAFISK_NEGATIVE_LENGTH: return "a length or a count is negative";
+    case ODDRAFISK_KEY_NOT_UTF8: return "the key of a header is not UTF-8";
+    case ODDRAFISK_UNKNOWN_CONTROL: return "the control marker is unknown";
+    case ODDRAFISK_BYTES_LEFT: return "bytes are left over";
+    case ODDRAFISK_NO_ROOM: return "a table has too few rows";
+    case ODDRAFISK_CODEC_ASKED: return "a codec is asked for";
+    case ODDRAFISK_WRONG_ROW: return "an entry or a row is asked for that no batch has";
+    case ODDRAFISK_ASKED_NOT_UTF8: return "the key of a header that is asked for is not UTF-8";
+    case ODDRAFISK_TOO_LONG: return "the batch would be longer than 2147483647 bytes after its length";
+    case ODDRAFISK_SHORT_OUTPUT: return "the output is shorter than the batch";
+    default: return "no function returns this number";
+    }
+}
+#endif
 
 #ifdef __cplusplus
 }

@@ -28,7 +28,7 @@ enum { UNTOUCHED_BYTE = 0xAA };
 #define UNTOUCHED INT64_C(-7777)
 
 /* Tables with room for four rows each, and a part of a fifth. */
-enum { RECORD_ROOM = 4 * ODDRAFISK_RECORD_ROW + 7, HEADER_ROOM = 4 * ODDRAFISK_HEADER_ROW + 3 };
+enum { RECORD_ROOM = ODDRAFISK_RECORD_NUMBERS(4) + 7, HEADER_ROOM = ODDRAFISK_HEADER_NUMBERS(4) + 3 };
 
 typedef struct {
     int64_t records[RECORD_ROOM];
@@ -167,8 +167,57 @@ static void test_constants(void)
     for (size_t i = 0; i < COUNT(kinds); i++)
         EXPECT(kinds[i] == (int)i);
     EXPECT(ODDRAFISK_ENTRIES == 16);
-    EXPECT(ODDRAFISK_RECORD_ROW == 8);
-    EXPECT(ODDRAFISK_HEADER_ROW == 4);
+}
+
+static void test_rows(void)
+{
+    static const int record[] = {
+        ODDRAFISK_RECORD_TIMESTAMP_DELTA, ODDRAFISK_RECORD_OFFSET_DELTA, ODDRAFISK_RECORD_KEY_START,
+        ODDRAFISK_RECORD_KEY_LENGTH, ODDRAFISK_RECORD_VALUE_START, ODDRAFISK_RECORD_VALUE_LENGTH,
+        ODDRAFISK_RECORD_FIRST_HEADER, ODDRAFISK_RECORD_HEADERS, ODDRAFISK_RECORD_ROW};
+    static const int header[] = {ODDRAFISK_HEADER_KEY_START, ODDRAFISK_HEADER_KEY_LENGTH, ODDRAFISK_HEADER_VALUE_START,
+                                 ODDRAFISK_HEADER_VALUE_LENGTH, ODDRAFISK_HEADER_ROW};
+    for (size_t i = 0; i < COUNT(record); i++)
+        EXPECT(record[i] == (int)i);
+    for (size_t i = 0; i < COUNT(header); i++)
+        EXPECT(header[i] == (int)i);
+    EXPECT(ODDRAFISK_RECORD_NUMBERS(0) == 0 && ODDRAFISK_HEADER_NUMBERS(0) == 0);
+    EXPECT(ODDRAFISK_RECORD_NUMBERS(1 + 2) == 24 && ODDRAFISK_HEADER_NUMBERS(1 + 2) == 12);
+    /* As many rows as 32 bits count, whose numbers they do not. */
+    EXPECT(ODDRAFISK_RECORD_NUMBERS(INT32_MAX) == UINT64_C(17179869176));
+    EXPECT(ODDRAFISK_HEADER_NUMBERS(INT32_MAX) == UINT64_C(8589934588));
+    EXPECT(sizeof ODDRAFISK_RECORD_NUMBERS(1) == sizeof(size_t));
+    EXPECT(sizeof ODDRAFISK_HEADER_NUMBERS(1) == sizeof(size_t));
+}
+
+static void test_version(void)
+{
+    EXPECT(oddrafisk_version() == ODDRAFISK_VERSION);
+}
+
+/* A word that a number's words are to have, after document 01's tables. */
+typedef struct {
+    uint32_t number;
+    const char *has;
+} word;
+
+static void test_words(void)
+{
+    static const word words[] = {
+        {0, "accepted"}, {1, "more bytes"}, {2, "length of the batch"}, {3, "magic"}, {4, "checksum"},
+        {5, "codec is unknown"}, {6, "compressed"}, {7, "count of records"}, {8, "past"}, {9, "varying length"},
+        {10, "negative"}, {11, "the key of a header is not UTF-8"}, {12, "control"}, {13, "left"}, {14, "table"},
+        {20, "codec is asked for"}, {21, "row"}, {22, "asked for is not UTF-8"}, {23, "longer than 2147483647"},
+        {24, "output"}};
+    static const uint32_t unknown[] = {15, 16, 17, 18, 19, 25, 256, 1000, UINT32_C(1) << 31, UINT32_MAX};
+    for (size_t i = 0; i < COUNT(words); i++) {
+        EXPECT(strstr(oddrafisk_words(words[i].number), words[i].has) != NULL);
+        EXPECT(strcmp(oddrafisk_words(words[i].number), oddrafisk_words(unknown[0])) != 0);
+        for (size_t j = 0; j < i; j++)
+            EXPECT(strcmp(oddrafisk_words(words[i].number), oddrafisk_words(words[j].number)) != 0);
+    }
+    for (size_t i = 0; i < COUNT(unknown); i++)
+        EXPECT(strcmp(oddrafisk_words(unknown[i]), "no function returns this number") == 0);
 }
 
 static void test_sample_read(void)
@@ -188,7 +237,7 @@ static void test_sample_read(void)
     EXPECT(counts_only(answer, 1, 0, ONE_BYTES));
     EXPECT(same_numbers(t.records, row, ODDRAFISK_RECORD_ROW));
     EXPECT(untouched_from(&t, ODDRAFISK_RECORD_ROW, 0));
-    EXPECT(ONE[t.records[4]] == 'A');
+    EXPECT(ONE[t.records[ODDRAFISK_RECORD_VALUE_START]] == 'A');
     EXPECT(refused(SAMPLE + SAMPLE_BYTES, 3, 12) == ODDRAFISK_MORE_BYTES);
 }
 
@@ -246,22 +295,22 @@ static const uint8_t KNOWN[KNOWN_BYTES] = {
     0x18, 0x41, 0x42, 0x43, 0x44, 0x45, 0x46, 0x47, 0x48, 0x49, 0x4A, 0x4B, 0x4C};
 
 /* The rows by which that is read. */
-static const int64_t KNOWN_RECORDS[2 * ODDRAFISK_RECORD_ROW] = {
+static const int64_t KNOWN_RECORDS[ODDRAFISK_RECORD_NUMBERS(2)] = {
     -70000, 300, 69, 3, 73, 5, 0, 1,
     INT64_C(5000000000), 40000, 103, 7, 111, 8, 1, 2};
 
-static const int64_t KNOWN_HEADERS[3 * ODDRAFISK_HEADER_ROW] = {80, 4, 85, 6, 121, 9, 131, 10, 142, 11, 154, 12};
+static const int64_t KNOWN_HEADERS[ODDRAFISK_HEADER_NUMBERS(3)] = {80, 4, 85, 6, 121, 9, 131, 10, 142, 11, 154, 12};
 
 /* A source that has the same keys and values in another order, and the rows by which they are written from it. */
 static const char KNOWN_SOURCE[] =
     "some thirteen|ABCDEFGHIJKL|server-7|zone|value|gr\xC3\xB6\xC3\x9F"
     "er!|cookie2|norden|trace-label|key|0123456789|";
 
-static const int64_t KNOWN_ASKED_RECORDS[2 * ODDRAFISK_RECORD_ROW] = {
+static const int64_t KNOWN_ASKED_RECORDS[ODDRAFISK_RECORD_NUMBERS(2)] = {
     -70000, 300, 84, 3, 41, 5, 0, 1,
     INT64_C(5000000000), 40000, 57, 7, 27, 8, 1, 2};
 
-static const int64_t KNOWN_ASKED_HEADERS[3 * ODDRAFISK_HEADER_ROW] = {36, 4, 65, 6, 47, 9, 88, 10, 72, 11, 14, 12};
+static const int64_t KNOWN_ASKED_HEADERS[ODDRAFISK_HEADER_NUMBERS(3)] = {36, 4, 65, 6, 47, 9, 88, 10, 72, 11, 14, 12};
 
 /* Timestamp type and transactional flag have two values only: the one is 1 and the other 0, then the other way round.
  * Attributes and checksum follow them. */
@@ -340,6 +389,90 @@ static void test_truncated(void)
     }
 }
 
+/* How many bytes a batch has by its first 17 alone; 0 where they do not say, or are not there. */
+static size_t framed(const uint8_t *bytes, size_t count)
+{
+    int64_t answer[ODDRAFISK_ENTRIES];
+    uint32_t number = oddrafisk_check(bytes, count < 17 ? count : 17, answer);
+    return number == ODDRAFISK_MORE_BYTES && answer[ODDRAFISK_BYTES] > 17 ? (size_t)answer[ODDRAFISK_BYTES] : 0;
+}
+
+/* The first bytes of a batch with this length and magic: what 12 to 16 of them are answered, what 17 are, and how many
+ * bytes the batch then has. */
+typedef struct {
+    const uint8_t *batch;
+    uint32_t length;
+    uint8_t magic;
+    uint32_t of_12, of_17;
+    int64_t whole;
+} opening;
+
+static void expect_opening(const opening *due)
+{
+    uint8_t bytes[17];
+    memcpy(bytes, due->batch, sizeof bytes);
+    put_be(bytes + 8, 4, due->length);
+    bytes[16] = due->magic;
+    for (size_t count = 0; count < 17; count++) {
+        uint32_t number = count < 12 ? (uint32_t)ODDRAFISK_MORE_BYTES : due->of_12;
+        int64_t needed = count < 12 ? 12 : number == ODDRAFISK_MORE_BYTES ? 17 : 0;
+        EXPECT(refused(bytes, count, needed) == number);
+        EXPECT(framed(bytes, count) == 0);
+    }
+    EXPECT(refused(bytes, 17, due->whole) == due->of_17);
+    EXPECT(framed(bytes, 17) == (size_t)due->whole);
+}
+
+static void test_first_17(void)
+{
+    const opening openings[] = {
+        {ONE, 57, 2, ODDRAFISK_MORE_BYTES, ODDRAFISK_MORE_BYTES, ONE_BYTES},
+        {KNOWN, 154, 2, ODDRAFISK_MORE_BYTES, ODDRAFISK_MORE_BYTES, KNOWN_BYTES},
+        {ONE, 9, 2, ODDRAFISK_MORE_BYTES, ODDRAFISK_MORE_BYTES, 21},
+        {KNOWN, 0x7FFFFFFF, 2, ODDRAFISK_MORE_BYTES, ODDRAFISK_MORE_BYTES, INT64_C(2147483659)},
+        {ONE, 57, 1, ODDRAFISK_MORE_BYTES, ODDRAFISK_UNKNOWN_MAGIC, 0},
+        {KNOWN, 154, 0x82, ODDRAFISK_MORE_BYTES, ODDRAFISK_UNKNOWN_MAGIC, 0},
+        {ONE, 8, 2, ODDRAFISK_LENGTH_TOO_SMALL, ODDRAFISK_LENGTH_TOO_SMALL, 0},
+        {KNOWN, 0x80000000, 3, ODDRAFISK_LENGTH_TOO_SMALL, ODDRAFISK_LENGTH_TOO_SMALL, 0}};
+    for (size_t i = 0; i < COUNT(openings); i++)
+        expect_opening(&openings[i]);
+}
+
+/* A log of two batches. The first has the batch ONE as its value, at the place NESTED. */
+enum { NESTED = EMPTY_BYTES + 8, NESTING_BYTES = NESTED + ONE_BYTES + 1, LOG_BYTES = NESTING_BYTES + KNOWN_BYTES };
+
+static void put_nesting(uint8_t *log)
+{
+    static const uint8_t fields[8] = {0x98, 0x01, 0, 0, 0, 0x01, 0x8A, 0x01};
+    uint8_t record[sizeof fields + ONE_BYTES + 1] = {0};
+    memcpy(record, fields, sizeof fields);
+    memcpy(record + sizeof fields, ONE, ONE_BYTES);
+    EXPECT(put_batch(log, 0, 1, record, sizeof record) == NESTING_BYTES);
+    memcpy(log + NESTING_BYTES, KNOWN, KNOWN_BYTES);
+}
+
+/* A damaged checksum leaves the length, which leads to the next batch; what one finds who tries place after place, or
+ * goes by a damaged length, is a batch inside a value. */
+static void test_going_on(void)
+{
+    uint8_t log[LOG_BYTES];
+    int64_t answer[ODDRAFISK_ENTRIES];
+    size_t place = 0;
+    put_nesting(log);
+    EXPECT(oddrafisk_check(log, LOG_BYTES, answer) == ODDRAFISK_ACCEPTED && answer[ODDRAFISK_BYTES] == NESTING_BYTES);
+    log[20] ^= 1;
+    EXPECT(oddrafisk_check(log, LOG_BYTES, answer) == ODDRAFISK_CHECKSUM_DIFFERS);
+    EXPECT(framed(log, LOG_BYTES) == NESTING_BYTES);
+    EXPECT(oddrafisk_check(log + NESTING_BYTES, KNOWN_BYTES, answer) == ODDRAFISK_ACCEPTED);
+    EXPECT(answer[ODDRAFISK_BASE_OFFSET] == INT64_C(0x1112131415161718));
+    while (place < LOG_BYTES && oddrafisk_check(log + place, LOG_BYTES - place, answer) != ODDRAFISK_ACCEPTED)
+        place++;
+    EXPECT(place == NESTED && answer[ODDRAFISK_BASE_OFFSET] == 7);
+    put_be(log + 8, 4, NESTED - 12);
+    EXPECT(oddrafisk_check(log, LOG_BYTES, answer) == ODDRAFISK_CHECKSUM_DIFFERS);
+    EXPECT(framed(log, LOG_BYTES) == NESTED);
+}
+
 static void test_damaged(void)
 {
     for (size_t place = 0; place < ONE_BYTES; place++) {
@@ -389,7 +522,7 @@ typedef struct {
     uint32_t attributes;
     int32_t count;
     size_t length;
-    uint8_t bytes[12];
+    uint8_t bytes[17];
 } body;
 
 static void test_bodies(void)
@@ -406,6 +539,8 @@ static void test_bodies(void)
         {ODDRAFISK_KEY_NOT_UTF8, 0, 1, 10, {0x12, 0, 0, 0, 1, 1, 2, 2, 0xC0, 0}},
         {ODDRAFISK_UNKNOWN_CONTROL, 32, 1, 4, {0, 1, 0, 0}},
         {ODDRAFISK_UNKNOWN_CONTROL, 32, 1, 4, {0, 0, 0, 2}},
+        /* a broker's marker: a record whose key has version and type, an abort */
+        {ODDRAFISK_UNKNOWN_CONTROL, 48, 1, 17, {0x20, 0, 0, 0, 8, 0, 0, 0, 0, 12, 0, 0, 0, 0, 0, 5, 0}},
         {ODDRAFISK_BYTES_LEFT, 0, 1, 8, {0xC8, 1, 0, 0, 0, 1, 1, 0}},
         {ODDRAFISK_BYTES_LEFT, 0, 1, 8, {0x0C, 0, 0, 0, 1, 1, 0, 0}},
         {ODDRAFISK_BYTES_LEFT, 32, 1, 5, {0}}};
@@ -424,11 +559,11 @@ static void test_bodies(void)
  * "d" = "e". */
 static const uint8_t SOURCE[] = {'k', 'v', 'a', 'b', 'c', 'd', 'e'};
 
-static const int64_t RECORDS[2 * ODDRAFISK_RECORD_ROW] = {
+static const int64_t RECORDS[ODDRAFISK_RECORD_NUMBERS(2)] = {
     0, 0, 0, 1, 0, -1, 0, 1,
     INT64_MIN, INT32_MIN, 7, 0, 1, 1, 1, 2};
 
-static const int64_t HEADERS[3 * ODDRAFISK_HEADER_ROW] = {2, 1, 3, 2, 0, 0, 0, 0, 5, 1, 6, 1};
+static const int64_t HEADERS[ODDRAFISK_HEADER_NUMBERS(3)] = {2, 1, 3, 2, 0, 0, 0, 0, 5, 1, 6, 1};
 
 /* Every field at an end of its range; what is not looked at in writing has any number. */
 static const int64_t BATCH[ODDRAFISK_ENTRIES] = {
@@ -479,10 +614,11 @@ static void test_reads_back(void)
     EXPECT(same_numbers(answer, expected, ODDRAFISK_ENTRIES));
     EXPECT(untouched_from(&t, COUNT(RECORDS), COUNT(HEADERS)));
     for (size_t i = 0; i < COUNT(RECORDS); i += ODDRAFISK_RECORD_ROW) {
-        EXPECT(same_numbers(RECORDS + i, t.records + i, 2));
-        EXPECT(same_span(RECORDS + i + 2, t.records + i + 2, output));
-        EXPECT(same_span(RECORDS + i + 4, t.records + i + 4, output));
-        EXPECT(same_numbers(RECORDS + i + 6, t.records + i + 6, 2));
+        const int64_t *asked = RECORDS + i, *read = t.records + i;
+        EXPECT(same_numbers(asked, read, ODDRAFISK_RECORD_KEY_START));
+        EXPECT(same_span(asked + ODDRAFISK_RECORD_KEY_START, read + ODDRAFISK_RECORD_KEY_START, output));
+        EXPECT(same_span(asked + ODDRAFISK_RECORD_VALUE_START, read + ODDRAFISK_RECORD_VALUE_START, output));
+        EXPECT(same_numbers(asked + ODDRAFISK_RECORD_FIRST_HEADER, read + ODDRAFISK_RECORD_FIRST_HEADER, 2));
     }
     for (size_t i = 0; i < COUNT(HEADERS); i += 2)
         EXPECT(same_span(HEADERS + i, t.headers + i, output));
@@ -509,6 +645,31 @@ static void test_no_room(void)
             EXPECT(untouched_from(&t, COUNT(RECORDS), COUNT(HEADERS)));
         }
     }
+}
+
+/* Four records with a header each: lent by their rows, as the answer counts them, the tables are short for ever. */
+static void test_rows_asked_for(void)
+{
+    enum { ROWS = 4, ROWS_BYTES = EMPTY_BYTES + ROWS * 9 };
+    static const uint8_t record[9] = {0x10, 0, 0, 0, 1, 1, 2, 0, 0};
+    uint8_t bytes[ROWS_BYTES], body[ROWS * sizeof record];
+    int64_t answer[ODDRAFISK_ENTRIES];
+    tables t;
+    for (size_t i = 0; i < ROWS; i++)
+        memcpy(body + i * sizeof record, record, sizeof record);
+    EXPECT(put_batch(bytes, 0, ROWS, body, sizeof body) == sizeof bytes);
+    clear_tables(&t);
+    EXPECT(oddrafisk_check(bytes, sizeof bytes, answer) == ODDRAFISK_ACCEPTED);
+    EXPECT(counts_only(answer, ROWS, ROWS, ROWS_BYTES));
+    EXPECT(oddrafisk_read(bytes, sizeof bytes, t.records, ROWS, t.headers, ROWS, answer) == ODDRAFISK_NO_ROOM);
+    EXPECT(counts_only(answer, ROWS, ROWS, 0));
+    EXPECT(untouched_from(&t, 0, 0));
+    size_t record_numbers = ODDRAFISK_RECORD_NUMBERS(answer[ODDRAFISK_RECORDS]);
+    size_t header_numbers = ODDRAFISK_HEADER_NUMBERS(answer[ODDRAFISK_HEADERS]);
+    EXPECT(oddrafisk_read(bytes, sizeof bytes, t.records, record_numbers, t.headers, header_numbers, answer) == 0);
+    EXPECT(untouched_from(&t, ODDRAFISK_RECORD_NUMBERS(ROWS), ODDRAFISK_HEADER_NUMBERS(ROWS)));
+    EXPECT(t.records[ODDRAFISK_RECORD_NUMBERS(3) + ODDRAFISK_RECORD_FIRST_HEADER] == 3);
+    EXPECT(t.headers[ODDRAFISK_HEADER_NUMBERS(3) + ODDRAFISK_HEADER_VALUE_START] == ROWS_BYTES);
 }
 
 /* Expects that the writer refuses with this number, and touches nothing. */
@@ -567,22 +728,51 @@ static void test_wrong_entries(void)
     }
 }
 
-static void test_wrong_rows(void)
+static void test_wrong_records(void)
 {
-    static const change in_records[] = {
-        {1, INT64_C(1) << 31}, {1, -(INT64_C(1) << 31) - 1}, {2, -1}, {3, 8}, {3, -2}, {3, INT64_MAX}, {3, INT64_MIN},
-        {4, 1}, {5, -2}, {6, 1}, {6, -1}, {7, -1}, {7, 2}, {7, INT64_MAX}, {10, 8}, {12, 7}, {14, 0}, {14, 2}, {15, 3}};
-    static const change in_headers[] = {{0, -1}, {0, 7}, {1, -1}, {3, -1}, {3, 5}, {4, 8}, {11, -1}, {11, INT64_MAX}};
-    for (size_t i = 0; i < COUNT(in_records); i++) {
+    static const change changes[] = {
+        {ODDRAFISK_RECORD_OFFSET_DELTA, INT64_C(1) << 31},
+        {ODDRAFISK_RECORD_OFFSET_DELTA, -(INT64_C(1) << 31) - 1},
+        {ODDRAFISK_RECORD_KEY_START, -1},
+        {ODDRAFISK_RECORD_KEY_LENGTH, 8},
+        {ODDRAFISK_RECORD_KEY_LENGTH, -2},
+        {ODDRAFISK_RECORD_KEY_LENGTH, INT64_MAX},
+        {ODDRAFISK_RECORD_KEY_LENGTH, INT64_MIN},
+        {ODDRAFISK_RECORD_VALUE_START, 1},
+        {ODDRAFISK_RECORD_VALUE_LENGTH, -2},
+        {ODDRAFISK_RECORD_FIRST_HEADER, 1},
+        {ODDRAFISK_RECORD_FIRST_HEADER, -1},
+        {ODDRAFISK_RECORD_HEADERS, -1},
+        {ODDRAFISK_RECORD_HEADERS, 2},
+        {ODDRAFISK_RECORD_HEADERS, INT64_MAX},
+        {ODDRAFISK_RECORD_ROW + ODDRAFISK_RECORD_KEY_START, 8},
+        {ODDRAFISK_RECORD_ROW + ODDRAFISK_RECORD_VALUE_START, 7},
+        {ODDRAFISK_RECORD_ROW + ODDRAFISK_RECORD_FIRST_HEADER, 0},
+        {ODDRAFISK_RECORD_ROW + ODDRAFISK_RECORD_FIRST_HEADER, 2},
+        {ODDRAFISK_RECORD_ROW + ODDRAFISK_RECORD_HEADERS, 3}};
+    for (size_t i = 0; i < COUNT(changes); i++) {
         int64_t records[COUNT(RECORDS)];
         memcpy(records, RECORDS, sizeof records);
-        records[in_records[i].place] = in_records[i].number;
+        records[changes[i].place] = changes[i].number;
         expect_refused(ODDRAFISK_WRONG_ROW, BATCH, 0, records, HEADERS, OUTPUT_BYTES);
     }
-    for (size_t i = 0; i < COUNT(in_headers); i++) {
+}
+
+static void test_wrong_headers(void)
+{
+    static const change changes[] = {
+        {ODDRAFISK_HEADER_KEY_START, -1},
+        {ODDRAFISK_HEADER_KEY_START, 7},
+        {ODDRAFISK_HEADER_KEY_LENGTH, -1},
+        {ODDRAFISK_HEADER_VALUE_LENGTH, -1},
+        {ODDRAFISK_HEADER_VALUE_LENGTH, 5},
+        {ODDRAFISK_HEADER_ROW + ODDRAFISK_HEADER_KEY_START, 8},
+        {2 * ODDRAFISK_HEADER_ROW + ODDRAFISK_HEADER_VALUE_LENGTH, -1},
+        {2 * ODDRAFISK_HEADER_ROW + ODDRAFISK_HEADER_VALUE_LENGTH, INT64_MAX}};
+    for (size_t i = 0; i < COUNT(changes); i++) {
         int64_t headers[COUNT(HEADERS)];
         memcpy(headers, HEADERS, sizeof headers);
-        headers[in_headers[i].place] = in_headers[i].number;
+        headers[changes[i].place] = changes[i].number;
         expect_refused(ODDRAFISK_WRONG_ROW, BATCH, 0, RECORDS, headers, OUTPUT_BYTES);
     }
 }
@@ -612,25 +802,25 @@ static void test_key_not_utf8(void)
 static void test_too_long(void)
 {
     enum { RECORD_COUNT = 2048, VALUE = 1 << 20, LAST = VALUE - 1 - 49 - 2047 * 13 - 11 };
-    int64_t *records = (int64_t *)calloc(RECORD_COUNT * ODDRAFISK_RECORD_ROW, sizeof *records);
+    int64_t *records = (int64_t *)calloc(ODDRAFISK_RECORD_NUMBERS(RECORD_COUNT), sizeof *records);
     uint8_t *source = (uint8_t *)calloc(VALUE, 1);
     int64_t batch[ODDRAFISK_ENTRIES] = {0}, length[1] = {UNTOUCHED};
     uint8_t output[1] = {UNTOUCHED_BYTE};
     if (!records || !source)
         abort();
     for (size_t i = 0; i < RECORD_COUNT; i++) {
-        records[i * ODDRAFISK_RECORD_ROW + 3] = -1;
-        records[i * ODDRAFISK_RECORD_ROW + 5] = VALUE;
+        records[ODDRAFISK_RECORD_NUMBERS(i) + ODDRAFISK_RECORD_KEY_LENGTH] = -1;
+        records[ODDRAFISK_RECORD_NUMBERS(i) + ODDRAFISK_RECORD_VALUE_LENGTH] = VALUE;
     }
     batch[ODDRAFISK_RECORDS] = RECORD_COUNT;
-    int64_t *last = records + (RECORD_COUNT - 1) * ODDRAFISK_RECORD_ROW;
+    int64_t *last = records + ODDRAFISK_RECORD_NUMBERS(RECORD_COUNT - 1);
     for (int64_t over = 0; over < 2; over++) {
-        last[5] = LAST + over;
-        uint32_t number = oddrafisk_measure(batch, 0, records, RECORD_COUNT * ODDRAFISK_RECORD_ROW, HEADERS, 0, source,
-                                            VALUE, length);
+        last[ODDRAFISK_RECORD_VALUE_LENGTH] = LAST + over;
+        uint32_t number = oddrafisk_measure(batch, 0, records, ODDRAFISK_RECORD_NUMBERS(RECORD_COUNT), HEADERS, 0,
+                                            source, VALUE, length);
         EXPECT(over ? number == ODDRAFISK_TOO_LONG : number == 0);
         EXPECT(length[0] == (over ? 0 : INT64_C(2147483647) + 12));
-        number = oddrafisk_write(batch, 0, records, RECORD_COUNT * ODDRAFISK_RECORD_ROW, HEADERS, 0, source, VALUE,
+        number = oddrafisk_write(batch, 0, records, ODDRAFISK_RECORD_NUMBERS(RECORD_COUNT), HEADERS, 0, source, VALUE,
                                  output, sizeof output, length);
         EXPECT(over ? number == ODDRAFISK_TOO_LONG : number == ODDRAFISK_SHORT_OUTPUT);
         EXPECT(length[0] == 0 && output[0] == UNTOUCHED_BYTE);
@@ -764,9 +954,10 @@ typedef struct {
 #define TEST(name) {#name, test_##name}
 
 static const test TESTS[] = {
-    TEST(constants), TEST(sample_read), TEST(sample_written), TEST(known_read), TEST(known_written), TEST(truncated),
-    TEST(damaged), TEST(edited), TEST(bodies), TEST(reads_back), TEST(no_room), TEST(codecs_and_outputs),
-    TEST(wrong_entries), TEST(wrong_rows), TEST(key_not_utf8), TEST(too_long), TEST(markers), TEST(canonical),
+    TEST(constants), TEST(rows), TEST(version), TEST(words), TEST(sample_read), TEST(sample_written), TEST(known_read),
+    TEST(known_written), TEST(truncated), TEST(first_17), TEST(going_on), TEST(damaged), TEST(edited), TEST(bodies),
+    TEST(reads_back), TEST(no_room), TEST(rows_asked_for), TEST(codecs_and_outputs), TEST(wrong_entries),
+    TEST(wrong_records), TEST(wrong_headers), TEST(key_not_utf8), TEST(too_long), TEST(markers), TEST(canonical),
     TEST(record_time), TEST(crc32c), TEST(nothing_lent)};
 
 /* A test passes where it makes checks and all of them hold. */

@@ -135,19 +135,19 @@ static void show_span(const uint8_t *bytes, int64_t start, int64_t length) {
 static void show_record(const uint8_t *bytes, const int64_t *batch, const int64_t *row, const int64_t *headers) {
     int64_t time = MARK;
     uint64_t told = oddrafisk_record_time(batch[ODDRAFISK_TIMESTAMP_TYPE], batch[ODDRAFISK_FIRST_TIMESTAMP],
-                                          batch[ODDRAFISK_MAX_TIMESTAMP], row[0], &time);
+                                          batch[ODDRAFISK_MAX_TIMESTAMP], row[ODDRAFISK_RECORD_TIMESTAMP_DELTA], &time);
     show_answer("row", told, row, ODDRAFISK_RECORD_ROW);
-    printf("record %" PRId64, row[1]);
+    printf("record %" PRId64, row[ODDRAFISK_RECORD_OFFSET_DELTA]);
     if (told == 1)
         printf(" %" PRId64, time);
     else
         printf(" none-%" PRId64, time);
-    show_span(bytes, row[2], row[3]);
-    show_span(bytes, row[4], row[5]);
-    for (int64_t i = row[6]; i < row[6] + row[7]; i++) {
-        const int64_t *header = headers + i * ODDRAFISK_HEADER_ROW;
-        show_span(bytes, header[0], header[1]);
-        show_span(bytes, header[2], header[3]);
+    show_span(bytes, row[ODDRAFISK_RECORD_KEY_START], row[ODDRAFISK_RECORD_KEY_LENGTH]);
+    show_span(bytes, row[ODDRAFISK_RECORD_VALUE_START], row[ODDRAFISK_RECORD_VALUE_LENGTH]);
+    const int64_t *header = headers + ODDRAFISK_HEADER_NUMBERS(row[ODDRAFISK_RECORD_FIRST_HEADER]);
+    for (int64_t left = row[ODDRAFISK_RECORD_HEADERS]; left > 0; left--, header += ODDRAFISK_HEADER_ROW) {
+        show_span(bytes, header[ODDRAFISK_HEADER_KEY_START], header[ODDRAFISK_HEADER_KEY_LENGTH]);
+        show_span(bytes, header[ODDRAFISK_HEADER_VALUE_START], header[ODDRAFISK_HEADER_VALUE_LENGTH]);
     }
     putchar('\n');
 }
@@ -160,15 +160,15 @@ static uint32_t read_into(struct bytes log, struct numbers records, struct numbe
     size_t rows = accepted ? (size_t)answer[ODDRAFISK_RECORDS] : 0;
     size_t header_rows = accepted ? (size_t)answer[ODDRAFISK_HEADERS] : 0;
     show_answer("read", result, answer, ODDRAFISK_ENTRIES);
-    printf("tables %s %s\n", numbers_kept(records, rows * ODDRAFISK_RECORD_ROW),
-           numbers_kept(headers, header_rows * ODDRAFISK_HEADER_ROW));
+    printf("tables %s %s\n", numbers_kept(records, ODDRAFISK_RECORD_NUMBERS(rows)),
+           numbers_kept(headers, ODDRAFISK_HEADER_NUMBERS(header_rows)));
     return (uint32_t)result;
 }
 
 /* Reads with the tables that are needed, less so many numbers of each. */
 static void read_short(struct bytes log, const int64_t *needed, size_t fewer_records, size_t fewer_headers) {
-    size_t records = (size_t)needed[ODDRAFISK_RECORDS] * ODDRAFISK_RECORD_ROW;
-    size_t headers = (size_t)needed[ODDRAFISK_HEADERS] * ODDRAFISK_HEADER_ROW;
+    size_t records = ODDRAFISK_RECORD_NUMBERS(needed[ODDRAFISK_RECORDS]);
+    size_t headers = ODDRAFISK_HEADER_NUMBERS(needed[ODDRAFISK_HEADERS]);
     if (records < fewer_records || headers < fewer_headers) return;
     struct numbers short_records = marked_numbers(records - fewer_records);
     struct numbers short_headers = marked_numbers(headers - fewer_headers);
@@ -213,13 +213,13 @@ static size_t show_batch(struct bytes log) {
     int64_t checked[ODDRAFISK_ENTRIES], answer[ODDRAFISK_ENTRIES];
     mark_answer(checked);
     show_answer("check", oddrafisk_check(log.at, log.count, checked), checked, ODDRAFISK_ENTRIES);
-    struct numbers records = marked_numbers((size_t)checked[ODDRAFISK_RECORDS] * ODDRAFISK_RECORD_ROW);
-    struct numbers headers = marked_numbers((size_t)checked[ODDRAFISK_HEADERS] * ODDRAFISK_HEADER_ROW);
+    struct numbers records = marked_numbers(ODDRAFISK_RECORD_NUMBERS(checked[ODDRAFISK_RECORDS]));
+    struct numbers headers = marked_numbers(ODDRAFISK_HEADER_NUMBERS(checked[ODDRAFISK_HEADERS]));
     size_t consumed = 0;
     if (read_into(log, records, headers, answer) == ODDRAFISK_ACCEPTED) {
         consumed = (size_t)answer[ODDRAFISK_BYTES];
         for (int64_t i = 0; i < answer[ODDRAFISK_RECORDS]; i++)
-            show_record(log.at, answer, records.at + i * ODDRAFISK_RECORD_ROW, headers.at);
+            show_record(log.at, answer, records.at + ODDRAFISK_RECORD_NUMBERS(i), headers.at);
         read_short(log, checked, 1, 0);
         read_short(log, checked, 0, 1);
         printf("canonical %" PRIu64 "\n", (uint64_t)oddrafisk_is_canonical(log.at, consumed));

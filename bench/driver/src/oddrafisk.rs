@@ -1,22 +1,10 @@
-//! The functions of liboddrafisk.a that are measured.
-//!
-//! Each call is right for the same reason: a slice or an array is a pointer that is aligned and not null, to as many
-//! elements as are said, and what is borrowed mutably overlaps nothing else.
+//! The functions of liboddrafisk.a that are measured, over both tables at once.
 
-/// The entries of a batch, and the places in them that are used here.
-pub const ENTRIES: usize = 16;
-pub const KIND: usize = 10;
-pub const RECORDS: usize = 11;
+use oddrafisk_sys::{self as sys, Entries};
 
-/// The numbers in a row of a record, and in a row of a header.
-pub const RECORD_ROW: usize = 8;
-pub const HEADER_ROW: usize = 4;
-
-pub const ACCEPTED: u32 = 0;
-
-#[path = "../../../bindings/rust/src/c.rs"]
-#[allow(dead_code)]
-mod c;
+pub use oddrafisk_sys::{
+    check, crc32c, ACCEPTED, BYTES, ENTRIES, HEADER_ROW, KIND, RECORDS, RECORD_ROW,
+};
 
 /// Both tables, of records and of headers.
 #[derive(Clone)]
@@ -25,58 +13,21 @@ pub struct Tables {
     pub headers: Vec<i64>,
 }
 
-pub fn check(bytes: &[u8], answer: &mut [i64; ENTRIES]) -> u32 {
-    // SAFETY: as said at the top.
-    unsafe { c::oddrafisk_check(bytes.as_ptr(), bytes.len(), answer.as_mut_ptr()) }
-}
-
-pub fn read(bytes: &[u8], tables: &mut Tables, answer: &mut [i64; ENTRIES]) -> u32 {
-    // SAFETY: as said at the top.
-    unsafe {
-        c::oddrafisk_read(
-            bytes.as_ptr(),
-            bytes.len(),
-            tables.records.as_mut_ptr(),
-            tables.records.len(),
-            tables.headers.as_mut_ptr(),
-            tables.headers.len(),
-            answer.as_mut_ptr(),
-        )
-    }
+pub fn read(bytes: &[u8], tables: &mut Tables, answer: &mut Entries) -> u32 {
+    sys::read(bytes, &mut tables.records, &mut tables.headers, answer)
 }
 
 pub fn write(
-    batch: &[i64; ENTRIES],
+    batch: &Entries,
     codec: i64,
     tables: &Tables,
     source: &[u8],
     output: &mut [u8],
     answer: &mut [i64; 1],
 ) -> u32 {
-    // SAFETY: as said at the top.
-    unsafe {
-        c::oddrafisk_write(
-            batch.as_ptr(),
-            codec,
-            tables.records.as_ptr(),
-            tables.records.len(),
-            tables.headers.as_ptr(),
-            tables.headers.len(),
-            source.as_ptr(),
-            source.len(),
-            output.as_mut_ptr(),
-            output.len(),
-            answer.as_mut_ptr(),
-        )
-    }
+    sys::write(batch, codec, &tables.records, &tables.headers, source, output, answer)
 }
 
 pub fn is_canonical(bytes: &[u8]) -> bool {
-    // SAFETY: as said at the top.
-    unsafe { c::oddrafisk_is_canonical(bytes.as_ptr(), bytes.len()) == 1 }
-}
-
-pub fn crc32c(bytes: &[u8]) -> u32 {
-    // SAFETY: as said at the top.
-    unsafe { c::oddrafisk_crc32c(bytes.as_ptr(), bytes.len()) }
+    sys::is_canonical(bytes) == 1
 }

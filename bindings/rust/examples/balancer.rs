@@ -1,13 +1,18 @@
 //! A restarted balancer: reads a pinning log and keeps the latest pinning of each cookie.
 //!
 //! ```text
-//! cargo run --release --example balancer FILE
+//! cargo run --release --example balancer FILE [--skip]
 //! ```
 //!
 //! A record's key is a cookie and its value the server that the cookie is pinned to; a null value
 //! withdraws the pinning. What a producer wrote in a transaction counts once the transaction's
 //! commit is met, from where it stands in the log; after an abort, or without a marker, it does not
 //! count. Prints a summary, and fails where the log is damaged or cut off.
+//!
+//! With `--skip` it goes on after a batch that is refused, by the batch's own length, and says
+//! which bytes it has passed over. What stood there is lost, and where the length itself is damaged
+//! the next place need be no batch's beginning: so it stops where what it finds there is refused as
+//! well, or does not come after what it has read.
 
 use std::collections::{BTreeMap, HashMap};
 use std::path::Path;
@@ -35,10 +40,11 @@ struct Pinnings<'a> {
     records: u64,
     without_cookie: u64,
     aborted: usize,
+    passed_over: u64,
 }
 
 impl<'a> Pinnings<'a> {
-    fn take_batch(&mut self, batch: &Batch<'a>) {
+    fn take_batch(&mut self, batch: &Batch<'a, '_>) {
         self.batches += 1;
         match batch.kind() {
             Kind::Records => self.take_records(batch),
@@ -46,7 +52,7 @@ impl<'a> Pinnings<'a> {
         }
     }
 
-    fn take_records(&mut self, batch: &Batch<'a>) {
+    fn take_records(&mut self, batch: &Batch<'a, '_>) {
         let fields = batch.fields();
         for record in batch.records() {
             self.records += 1;
@@ -94,6 +100,9 @@ impl<'a> Pinnings<'a> {
         let pinned: usize = servers.values().sum();
         let undecided: usize = self.undecided.values().map(Vec::len).sum();
         println!("batches {}", self.batches);
+        if self.passed_over != 0 {
+            println!("batches passed over {}", self.passed_over);
+        }
         println!("records {}", self.records);
         println!("records without a cookie {}", self.without_cookie);
         println!("records aborted {}", self.aborted);
@@ -106,60 +115,93 @@ impl<'a> Pinnings<'a> {
     }
 }
 
-/// Says once a second on standard error how far the reading is.
-struct Progress {
-    total: usize,
-    told: Instant,
+/// A log that is read on after damage, where that is asked for.
+struct Reading<'a> {
+    log: Log<'a>,
+    skips: bool,
+    last_offset: Option<i64>,
+    /// Whether the batch before was passed over.
+    passed_over: bool,
 }
 
-impl Progress {
-    fn tell(&mut self, place: usize) {
-        if Duration::from_secs(1) <= self.told.elapsed() {
-            eprintln!("{} of {} MB", place / 1_000_000, self.total / 1_000_000);
-            self.told = Instant::now();
-        }
+impl<'a> Reading<'a> {
+    /// Whether a batch may stand here. After damage that is so only where its offsets come after
+    /// all that were read: what the damaged length leads to may be a batch inside a value.
+    fn is_next(&self, batch: &Batch<'a, '_>) -> bool {
+        let follows = |last| last < batch.fields().base_offset;
+        !self.passed_over || self.last_offset.is_none_or(follows)
     }
-}
 
-/// All pinnings up to the log's end, or up to the batch that cannot be read.
-fn read_pinnings(bytes: &[u8]) -> (Pinnings<'_>, Result<usize, LogError>) {
-    let mut pinnings = Pinnings::default();
-    let mut progress = Progress {
-        total: bytes.len(),
-        told: Instant::now(),
-    };
-    let mut log = Log::new(bytes);
-    while let Some(batch) = log.next() {
-        match batch {
-            Ok(batch) => pinnings.take_batch(&batch),
-            Err(error) => return (pinnings, Err(error)),
+    /// Passes over the batch that was refused. One after the other is a sign that the length of the
+    /// first was damaged.
+    fn pass_over(&mut self, error: LogError) -> Result<(), String> {
+        if !self.skips || self.passed_over {
+            return Err(error.to_string());
         }
-        progress.tell(log.place());
+        let length = self.log.pass_over().map_err(|_| error.to_string())?;
+        eprintln!("{length} bytes are passed over {error}");
+        self.passed_over = true;
+        Ok(())
     }
-    (pinnings, Ok(log.place()))
+
+    /// Takes all pinnings up to the log's end, or says why it stops before.
+    fn read_into(&mut self, pinnings: &mut Pinnings<'a>) -> Result<usize, String> {
+        let mut told = Instant::now();
+        while let Some(read) = self.log.next() {
+            match read {
+                Ok(batch) if self.is_next(&batch) => {
+                    pinnings.take_batch(&batch);
+                    self.last_offset = batch.fields().last_offset();
+                    self.passed_over = false;
+                }
+                Ok(batch) => return Err(format!("at a batch out of order: {batch:?}")),
+                Err(error) => {
+                    self.pass_over(error)?;
+                    pinnings.passed_over += 1;
+                }
+            }
+            if Duration::from_secs(1) <= told.elapsed() {
+                eprintln!("{} MB", self.log.place() / 1_000_000);
+                told = Instant::now();
+            }
+        }
+        Ok(self.log.place())
+    }
 }
 
 fn main() -> ExitCode {
-    let Some(file) = env::args_os().nth(1) else {
-        eprintln!("balancer FILE");
-        return ExitCode::from(2);
-    };
-    let bytes = match fs::read(&file) {
-        Ok(bytes) => bytes,
-        Err(error) => {
-            eprintln!("{}: {error}", Path::new(&file).display());
+    let arguments: Vec<_> = env::args_os().skip(1).collect();
+    let (file, skips) = match &arguments[..] {
+        [file] => (file, false),
+        [file, option] if option == "--skip" => (file, true),
+        _ => {
+            eprintln!("balancer FILE [--skip]");
             return ExitCode::from(2);
         }
     };
-    let (pinnings, end) = read_pinnings(&bytes);
+    let bytes = match fs::read(file) {
+        Ok(bytes) => bytes,
+        Err(error) => {
+            eprintln!("{}: {error}", Path::new(file).display());
+            return ExitCode::from(2);
+        }
+    };
+    let mut pinnings = Pinnings::default();
+    let mut reading = Reading {
+        log: Log::new(&bytes),
+        skips,
+        last_offset: None,
+        passed_over: false,
+    };
+    let end = reading.read_into(&mut pinnings);
     pinnings.print();
     match end {
         Ok(place) => {
             println!("end at {place}");
             ExitCode::SUCCESS
         }
-        Err(error) => {
-            println!("stop {error}");
+        Err(why) => {
+            println!("stop {why}");
             ExitCode::FAILURE
         }
     }

@@ -7,13 +7,13 @@
 //! Cookie `i` is pinned to server `i` modulo 6. Then each fourth cookie moves to the next server in
 //! a transaction that is committed, each fifth in one that is aborted, and each tenth is withdrawn.
 
+use std::env;
 use std::error::Error;
 use std::fs::File;
 use std::io::{BufWriter, Write};
 use std::process::ExitCode;
-use std::{env, iter};
 
-use oddrafisk::{BatchBuilder, Fields, Marker, NewRecord};
+use oddrafisk::{BatchBuilder, Fields, Marker};
 
 const SERVERS: u64 = 6;
 const RECORDS_IN_A_BATCH: usize = 100;
@@ -86,25 +86,23 @@ impl<W: Write> Writer<W> {
         self.builder.clear();
         self.builder.fields = self.at_next_offset(producer);
         if producer.is_transactional {
-            // After the greatest sequence number comes 0.
             self.builder.fields.base_sequence = self.next_sequence;
-            self.next_sequence = self.next_sequence.wrapping_add(changes.len() as i32) & i32::MAX;
         }
-        for (delta, &(cookie, server)) in iter::zip(0.., changes) {
+        for (time, &(cookie, server)) in (START + self.next_offset..).zip(changes) {
             let cookie = format!("session-{cookie:016}");
             let server = server.map(|server| format!("rail-node-{:02}", server + 1));
-            self.builder.record(NewRecord {
-                timestamp_delta: delta.into(),
-                offset_delta: delta,
-                key: Some(cookie.as_bytes()),
-                value: server.as_ref().map(String::as_bytes),
-                headers: &[],
-            });
+            let server = server.as_ref().map(String::as_bytes);
+            self.builder
+                .push(time, Some(cookie.as_bytes()), server, &[])?;
         }
         self.bytes.clear();
         self.builder.append_to(&mut self.bytes)?;
         self.output.write_all(&self.bytes)?;
-        self.next_offset += changes.len() as i64;
+        let next = &self.builder.next_batch()?.fields;
+        self.next_offset = next.base_offset;
+        if producer.is_transactional {
+            self.next_sequence = next.base_sequence;
+        }
         Ok(())
     }
 

@@ -1,11 +1,18 @@
 //! What a batch is, and views of one that was read.
 
-use std::borrow::Cow;
-use std::fmt;
+use alloc::borrow::Cow;
+use alloc::vec::Vec;
+use core::{fmt, str};
 
-use crate::ffi::{self, Entries, HeaderRow, RecordRow};
+use oddrafisk_sys::{self as sys, Entries, HeaderRow, RecordRow};
 
 /// What the timestamps of a batch are.
+///
+/// ```
+/// use oddrafisk::{Fields, TimestampType};
+///
+/// assert_eq!(Fields::default().timestamp_type, TimestampType::CreateTime);
+/// ```
 #[derive(Debug, Clone, Copy, PartialEq, Eq, Hash, Default)]
 pub enum TimestampType {
     /// When the records were made.
@@ -16,6 +23,19 @@ pub enum TimestampType {
 }
 
 /// How a transaction ends.
+///
+/// The four bytes of a control batch are read and written as the Rust crate rskafka has them.
+/// Brokers put them into the key of a record, and such a batch is refused by
+/// [`UnknownControl`](crate::Refusal::UnknownControl): brokers' own markers are not read yet
+/// (request C-16).
+///
+/// ```
+/// use oddrafisk::{Batch, Fields, Kind, Marker};
+///
+/// let bytes = Marker::Abort.to_vec(&Fields { producer_id: 4012, ..Fields::default() });
+/// assert_eq!(Batch::read(&bytes)?.kind(), Kind::Marker(Marker::Abort));
+/// # Ok::<(), oddrafisk::ReadError>(())
+/// ```
 #[derive(Debug, Clone, Copy, PartialEq, Eq, Hash)]
 pub enum Marker {
     /// What the producer wrote in the transaction does not count.
@@ -25,6 +45,17 @@ pub enum Marker {
 }
 
 /// What a batch holds.
+///
+/// ```
+/// use oddrafisk::{check, BatchBuilder, Kind};
+///
+/// let bytes = BatchBuilder::default().to_vec()?;
+/// match check(&bytes)?.kind {
+///     Kind::Records => println!("records"),
+///     Kind::Marker(marker) => println!("the end of a transaction: {marker:?}"),
+/// }
+/// # Ok::<(), Box<dyn std::error::Error>>(())
+/// ```
 #[derive(Debug, Clone, Copy, PartialEq, Eq, Hash)]
 pub enum Kind {
     /// Records, of which there may be none.
@@ -37,6 +68,13 @@ pub enum Kind {
 ///
 /// The default is a batch at offset 0 with no leader epoch, no timestamps, no producer and no
 /// transaction: each of those is -1, as Kafka has it.
+///
+/// ```
+/// use oddrafisk::Fields;
+///
+/// let fields = Fields { base_offset: 7, producer_id: 4012, ..Fields::default() };
+/// assert_eq!((fields.producer_epoch, fields.base_sequence), (-1, -1));
+/// ```
 #[derive(Debug, Clone, Copy, PartialEq, Eq, Hash)]
 pub struct Fields {
     /// The offset from which those of the records count.
@@ -80,48 +118,70 @@ impl Default for Fields {
 }
 
 impl Fields {
+    /// The offset of the last record in the log; none where it leaves 64 bits. The batch that
+    /// follows has a base offset above it.
+    ///
+    /// ```
+    /// use oddrafisk::Fields;
+    ///
+    /// let mut fields = Fields { base_offset: 7, last_offset_delta: 4, ..Fields::default() };
+    /// assert_eq!(fields.last_offset(), Some(11));
+    /// fields.base_offset = i64::MAX;
+    /// assert_eq!(fields.last_offset(), None);
+    /// ```
+    pub fn last_offset(&self) -> Option<i64> {
+        self.base_offset.checked_add(self.last_offset_delta.into())
+    }
+
     /// The reader gives each entry in the width that its field has.
     fn of_entries(entries: &Entries) -> Self {
         Fields {
-            base_offset: entries[ffi::BASE_OFFSET],
-            partition_leader_epoch: entries[ffi::PARTITION_LEADER_EPOCH] as i32,
-            last_offset_delta: entries[ffi::LAST_OFFSET_DELTA] as i32,
-            first_timestamp: entries[ffi::FIRST_TIMESTAMP],
-            max_timestamp: entries[ffi::MAX_TIMESTAMP],
-            producer_id: entries[ffi::PRODUCER_ID],
-            producer_epoch: entries[ffi::PRODUCER_EPOCH] as i16,
-            base_sequence: entries[ffi::BASE_SEQUENCE] as i32,
-            timestamp_type: match entries[ffi::TIMESTAMP_TYPE] {
+            base_offset: entries[sys::BASE_OFFSET],
+            partition_leader_epoch: entries[sys::PARTITION_LEADER_EPOCH] as i32,
+            last_offset_delta: entries[sys::LAST_OFFSET_DELTA] as i32,
+            first_timestamp: entries[sys::FIRST_TIMESTAMP],
+            max_timestamp: entries[sys::MAX_TIMESTAMP],
+            producer_id: entries[sys::PRODUCER_ID],
+            producer_epoch: entries[sys::PRODUCER_EPOCH] as i16,
+            base_sequence: entries[sys::BASE_SEQUENCE] as i32,
+            timestamp_type: match entries[sys::TIMESTAMP_TYPE] {
                 0 => TimestampType::CreateTime,
                 _ => TimestampType::LogAppendTime,
             },
-            is_transactional: entries[ffi::IS_TRANSACTIONAL] != 0,
+            is_transactional: entries[sys::IS_TRANSACTIONAL] != 0,
         }
     }
 
     pub(crate) fn to_entries(self, kind: Kind, records: usize) -> Entries {
-        let mut entries = [0; ffi::ENTRIES];
-        entries[ffi::BASE_OFFSET] = self.base_offset;
-        entries[ffi::PARTITION_LEADER_EPOCH] = self.partition_leader_epoch.into();
-        entries[ffi::LAST_OFFSET_DELTA] = self.last_offset_delta.into();
-        entries[ffi::FIRST_TIMESTAMP] = self.first_timestamp;
-        entries[ffi::MAX_TIMESTAMP] = self.max_timestamp;
-        entries[ffi::PRODUCER_ID] = self.producer_id;
-        entries[ffi::PRODUCER_EPOCH] = self.producer_epoch.into();
-        entries[ffi::BASE_SEQUENCE] = self.base_sequence.into();
-        entries[ffi::TIMESTAMP_TYPE] = self.timestamp_type as i64;
-        entries[ffi::IS_TRANSACTIONAL] = self.is_transactional.into();
-        entries[ffi::KIND] = match kind {
-            Kind::Records => ffi::KIND_RECORDS,
-            Kind::Marker(Marker::Abort) => ffi::KIND_ABORT,
-            Kind::Marker(Marker::Commit) => ffi::KIND_COMMIT,
+        let mut entries = [0; sys::ENTRIES];
+        entries[sys::BASE_OFFSET] = self.base_offset;
+        entries[sys::PARTITION_LEADER_EPOCH] = self.partition_leader_epoch.into();
+        entries[sys::LAST_OFFSET_DELTA] = self.last_offset_delta.into();
+        entries[sys::FIRST_TIMESTAMP] = self.first_timestamp;
+        entries[sys::MAX_TIMESTAMP] = self.max_timestamp;
+        entries[sys::PRODUCER_ID] = self.producer_id;
+        entries[sys::PRODUCER_EPOCH] = self.producer_epoch.into();
+        entries[sys::BASE_SEQUENCE] = self.base_sequence.into();
+        entries[sys::TIMESTAMP_TYPE] = self.timestamp_type as i64;
+        entries[sys::IS_TRANSACTIONAL] = self.is_transactional.into();
+        entries[sys::KIND] = match kind {
+            Kind::Records => sys::KIND_RECORDS,
+            Kind::Marker(Marker::Abort) => sys::KIND_ABORT,
+            Kind::Marker(Marker::Commit) => sys::KIND_COMMIT,
         };
-        entries[ffi::RECORDS] = records as i64;
+        entries[sys::RECORDS] = records as i64;
         entries
     }
 }
 
 /// What a batch is, without its records: what [`check`](crate::check) tells.
+///
+/// ```
+/// let bytes = oddrafisk::BatchBuilder::default().to_vec()?;
+/// let outline = oddrafisk::check(&bytes)?;
+/// assert_eq!((outline.records, outline.headers, outline.bytes), (0, 0, 61));
+/// # Ok::<(), Box<dyn std::error::Error>>(())
+/// ```
 #[derive(Debug, Clone, Copy, PartialEq, Eq, Hash)]
 pub struct Outline {
     /// Its fields.
@@ -140,66 +200,121 @@ impl Outline {
     pub(crate) fn of_entries(entries: &Entries) -> Self {
         Outline {
             fields: Fields::of_entries(entries),
-            kind: match entries[ffi::KIND] {
-                ffi::KIND_RECORDS => Kind::Records,
-                ffi::KIND_ABORT => Kind::Marker(Marker::Abort),
+            kind: match entries[sys::KIND] {
+                sys::KIND_RECORDS => Kind::Records,
+                sys::KIND_ABORT => Kind::Marker(Marker::Abort),
                 _ => Kind::Marker(Marker::Commit),
             },
-            records: entries[ffi::RECORDS] as usize,
-            headers: entries[ffi::HEADERS] as usize,
-            bytes: entries[ffi::BYTES] as usize,
+            records: entries[sys::RECORDS] as usize,
+            headers: entries[sys::HEADERS] as usize,
+            bytes: entries[sys::BYTES] as usize,
         }
     }
 }
 
-/// A batch that was read. Keys and values are parts of the bytes that it was read from.
+/// A batch that was read from bytes that live for `'a`.
+///
+/// Keys and values are parts of the bytes, and may be kept as long as these. The rows that say
+/// where they lie live for `'r`: as long as the [`Reader`](crate::Reader) that has them is
+/// borrowed, or, where the batch has them itself, as long as is wanted.
 ///
 /// ```
-/// # fn main() -> Result<(), oddrafisk::ReadError> {
-/// # let mut builder = oddrafisk::BatchBuilder::default();
-/// # let record = oddrafisk::NewRecord { key: Some(b"cookie"), ..Default::default() };
-/// # let bytes = builder.record(record).to_vec().unwrap();
-/// let batch = oddrafisk::Batch::read(&bytes)?;
+/// # use oddrafisk::{Batch, BatchBuilder};
+/// # let bytes = BatchBuilder::default().push(0, Some(b"cookie"), None, &[])?.to_vec()?;
+/// let batch = Batch::read(&bytes)?;
 /// let keys: Vec<Option<&[u8]>> = batch.records().map(|record| record.key()).collect();
+/// drop(batch);
 /// assert_eq!(keys, [Some(b"cookie".as_slice())]);
-/// # Ok(())
-/// # }
+/// # Ok::<(), Box<dyn std::error::Error>>(())
 /// ```
 #[derive(Clone)]
-pub struct Batch<'a> {
+pub struct Batch<'a, 'r> {
     pub(crate) outline: Outline,
     pub(crate) bytes: &'a [u8],
-    pub(crate) records: Cow<'a, [RecordRow]>,
-    pub(crate) headers: Cow<'a, [HeaderRow]>,
+    pub(crate) records: Cow<'r, [RecordRow]>,
+    pub(crate) headers: Cow<'r, [HeaderRow]>,
 }
 
-impl<'a> Batch<'a> {
+impl<'a> Batch<'a, '_> {
     /// Its fields.
+    ///
+    /// ```
+    /// # let bytes = oddrafisk::BatchBuilder::default().to_vec()?;
+    /// assert_eq!(oddrafisk::Batch::read(&bytes)?.fields().base_offset, 0);
+    /// # Ok::<(), Box<dyn std::error::Error>>(())
+    /// ```
     pub fn fields(&self) -> &Fields {
         &self.outline.fields
     }
 
     /// What it holds.
+    ///
+    /// ```
+    /// # let bytes = oddrafisk::BatchBuilder::default().to_vec()?;
+    /// assert_eq!(oddrafisk::Batch::read(&bytes)?.kind(), oddrafisk::Kind::Records);
+    /// # Ok::<(), Box<dyn std::error::Error>>(())
+    /// ```
     pub fn kind(&self) -> Kind {
         self.outline.kind
     }
 
     /// Its own bytes, all of them.
+    ///
+    /// ```
+    /// # let mut bytes = oddrafisk::BatchBuilder::default().to_vec()?;
+    /// bytes.extend(b"what follows");
+    /// assert_eq!(oddrafisk::Batch::read(&bytes)?.bytes(), &bytes[..61]);
+    /// # Ok::<(), Box<dyn std::error::Error>>(())
+    /// ```
     pub fn bytes(&self) -> &'a [u8] {
         self.bytes
     }
 
     /// Its records, in the order of the bytes.
+    ///
+    /// ```
+    /// # use oddrafisk::{Batch, BatchBuilder};
+    /// # let bytes = BatchBuilder::default().push(0, None, Some(b"A"), &[])?.to_vec()?;
+    /// for record in Batch::read(&bytes)?.records() {
+    ///     assert_eq!((record.key(), record.value()), (None, Some(b"A".as_slice())));
+    /// }
+    /// # Ok::<(), Box<dyn std::error::Error>>(())
+    /// ```
     pub fn records(
         &self,
-    ) -> impl ExactSizeIterator<Item = Record<'_, 'a>> + DoubleEndedIterator + Clone {
-        self.records
-            .iter()
-            .map(move |row| Record { batch: self, row })
+    ) -> impl ExactSizeIterator<Item = Record<'a, '_>> + DoubleEndedIterator + Clone {
+        let (bytes, fields, headers) = (self.bytes, &self.outline.fields, &*self.headers);
+        self.records.iter().map(move |row| Record {
+            bytes,
+            fields,
+            row,
+            headers,
+        })
+    }
+
+    /// The same batch with rows of its own, so that the [`Reader`](crate::Reader) that read it is
+    /// free for the next.
+    ///
+    /// ```
+    /// # use oddrafisk::{BatchBuilder, Reader};
+    /// # let bytes = BatchBuilder::default().to_vec()?;
+    /// let mut reader = Reader::new();
+    /// let first = reader.read(&bytes)?.into_owned();
+    /// let second = reader.read(&bytes)?;
+    /// assert_eq!(first.fields(), second.fields());
+    /// # Ok::<(), Box<dyn std::error::Error>>(())
+    /// ```
+    pub fn into_owned(self) -> Batch<'a, 'static> {
+        Batch {
+            outline: self.outline,
+            bytes: self.bytes,
+            records: Cow::Owned(self.records.into_owned()),
+            headers: Cow::Owned(self.headers.into_owned()),
+        }
     }
 }
 
-impl fmt::Debug for Batch<'_> {
+impl fmt::Debug for Batch<'_, '_> {
     fn fmt(&self, f: &mut fmt::Formatter<'_>) -> fmt::Result {
         f.debug_struct("Batch")
             .field("outline", &self.outline)
@@ -208,59 +323,155 @@ impl fmt::Debug for Batch<'_> {
 }
 
 /// A record of a [`Batch`], with key and value as parts of the bytes.
+///
+/// ```
+/// # use oddrafisk::{Batch, BatchBuilder, Fields};
+/// # let mut builder = BatchBuilder::new(Fields { base_offset: 7, ..Fields::default() });
+/// # let bytes = builder.push(1000, Some(b"cookie"), None, &[])?.to_vec()?;
+/// # let batch = Batch::read(&bytes)?;
+/// let record = batch.records().next().unwrap();
+/// assert_eq!((record.offset(), record.time()), (Some(7), Some(1000)));
+/// assert_eq!((record.key(), record.value()), (Some(b"cookie".as_slice()), None));
+/// # Ok::<(), Box<dyn std::error::Error>>(())
+/// ```
 #[derive(Clone, Copy)]
-pub struct Record<'b, 'a> {
-    batch: &'b Batch<'a>,
-    row: &'b RecordRow,
+pub struct Record<'a, 'r> {
+    bytes: &'a [u8],
+    fields: &'r Fields,
+    row: &'r RecordRow,
+    headers: &'r [HeaderRow],
 }
 
-impl<'b, 'a> Record<'b, 'a> {
+impl<'a, 'r> Record<'a, 'r> {
     /// Its time, counted from the batch's `first_timestamp`.
+    ///
+    /// ```
+    /// # use oddrafisk::{Batch, BatchBuilder};
+    /// # let mut builder = BatchBuilder::default();
+    /// # let bytes = builder.push(1000, None, None, &[])?.push(1005, None, None, &[])?.to_vec()?;
+    /// # let batch = Batch::read(&bytes)?;
+    /// assert!(batch.records().map(|record| record.timestamp_delta()).eq([0, 5]));
+    /// # Ok::<(), Box<dyn std::error::Error>>(())
+    /// ```
     pub fn timestamp_delta(&self) -> i64 {
-        self.row[0]
+        self.row[sys::RECORD_TIMESTAMP_DELTA]
     }
 
     /// Its offset, counted from the batch's `base_offset`.
+    ///
+    /// ```
+    /// # use oddrafisk::{Batch, BatchBuilder};
+    /// # let mut builder = BatchBuilder::default();
+    /// # let bytes = builder.push(0, None, None, &[])?.push(0, None, None, &[])?.to_vec()?;
+    /// # let batch = Batch::read(&bytes)?;
+    /// assert!(batch.records().map(|record| record.offset_delta()).eq([0, 1]));
+    /// # Ok::<(), Box<dyn std::error::Error>>(())
+    /// ```
     pub fn offset_delta(&self) -> i32 {
-        self.row[1] as i32
+        self.row[sys::RECORD_OFFSET_DELTA] as i32
     }
 
     /// Its offset in the log; none where it leaves 64 bits.
+    ///
+    /// ```
+    /// # use oddrafisk::{Batch, BatchBuilder, Fields};
+    /// # let mut builder = BatchBuilder::new(Fields { base_offset: 7, ..Fields::default() });
+    /// # let bytes = builder.push(0, None, None, &[])?.push(0, None, None, &[])?.to_vec()?;
+    /// # let batch = Batch::read(&bytes)?;
+    /// assert!(batch.records().map(|record| record.offset()).eq([Some(7), Some(8)]));
+    /// # Ok::<(), Box<dyn std::error::Error>>(())
+    /// ```
     pub fn offset(&self) -> Option<i64> {
-        self.batch.fields().base_offset.checked_add(self.row[1])
+        self.fields
+            .base_offset
+            .checked_add(self.row[sys::RECORD_OFFSET_DELTA])
     }
 
-    /// Its time, in milliseconds since 1970; none where it leaves 64 bits. See [`record_time`].
+    /// Its time, in milliseconds since 1970; none where it leaves 64 bits. See [`record_time`],
+    /// also for log append time.
+    ///
+    /// ```
+    /// # use oddrafisk::{Batch, BatchBuilder};
+    /// # let mut builder = BatchBuilder::default();
+    /// # let bytes = builder.push(1000, None, None, &[])?.push(1005, None, None, &[])?.to_vec()?;
+    /// # let batch = Batch::read(&bytes)?;
+    /// assert!(batch.records().map(|record| record.time()).eq([Some(1000), Some(1005)]));
+    /// # Ok::<(), Box<dyn std::error::Error>>(())
+    /// ```
     pub fn time(&self) -> Option<i64> {
-        let fields = self.batch.fields();
         record_time(
-            fields.timestamp_type,
-            fields.first_timestamp,
-            fields.max_timestamp,
+            self.fields.timestamp_type,
+            self.fields.first_timestamp,
+            self.fields.max_timestamp,
             self.timestamp_delta(),
         )
     }
 
     /// Its key; none is null, which an empty key is not.
+    ///
+    /// ```
+    /// # use oddrafisk::{Batch, BatchBuilder};
+    /// # let mut builder = BatchBuilder::default();
+    /// # let bytes = builder.push(0, Some(b""), None, &[])?.push(0, None, None, &[])?.to_vec()?;
+    /// # let batch = Batch::read(&bytes)?;
+    /// assert!(batch.records().map(|record| record.key()).eq([Some(b"".as_slice()), None]));
+    /// # Ok::<(), Box<dyn std::error::Error>>(())
+    /// ```
     pub fn key(&self) -> Option<&'a [u8]> {
-        nullable(self.batch.bytes, self.row[2], self.row[3])
+        nullable(
+            self.bytes,
+            self.row[sys::RECORD_KEY_START],
+            self.row[sys::RECORD_KEY_LENGTH],
+        )
     }
 
     /// Its value; none is null, which an empty value is not.
+    ///
+    /// ```
+    /// # use oddrafisk::{Batch, BatchBuilder};
+    /// # let mut builder = BatchBuilder::default();
+    /// # let bytes = builder.push(0, None, Some(b"A"), &[])?.push(0, None, None, &[])?.to_vec()?;
+    /// # let batch = Batch::read(&bytes)?;
+    /// assert!(batch.records().map(|record| record.value()).eq([Some(b"A".as_slice()), None]));
+    /// # Ok::<(), Box<dyn std::error::Error>>(())
+    /// ```
     pub fn value(&self) -> Option<&'a [u8]> {
-        nullable(self.batch.bytes, self.row[4], self.row[5])
+        nullable(
+            self.bytes,
+            self.row[sys::RECORD_VALUE_START],
+            self.row[sys::RECORD_VALUE_LENGTH],
+        )
     }
 
     /// Its headers, in the order of the bytes.
+    ///
+    /// ```
+    /// # use oddrafisk::{Batch, BatchBuilder};
+    /// # let headers = [("gate", Some(b"4".as_slice()))];
+    /// # let bytes = BatchBuilder::default().push(0, None, None, &headers)?.to_vec()?;
+    /// # let batch = Batch::read(&bytes)?;
+    /// # let record = batch.records().next().unwrap();
+    /// let gate = record.headers().find(|header| header.key() == "gate");
+    /// assert_eq!(gate.unwrap().value(), b"4");
+    /// # Ok::<(), Box<dyn std::error::Error>>(())
+    /// ```
     pub fn headers(
         &self,
-    ) -> impl ExactSizeIterator<Item = Header<'a>> + DoubleEndedIterator + Clone + 'b {
-        let bytes = self.batch.bytes;
-        let first = self.row[6] as usize;
-        let rows = &self.batch.headers[first..first + self.row[7] as usize];
+    ) -> impl ExactSizeIterator<Item = Header<'a>> + DoubleEndedIterator + Clone + use<'a, 'r> {
+        let bytes = self.bytes;
+        let first = self.row[sys::RECORD_FIRST_HEADER] as usize;
+        let rows = &self.headers[first..][..self.row[sys::RECORD_HEADERS] as usize];
         rows.iter().map(move |row| Header {
-            key: part(bytes, row[0], row[1]),
-            value: part(bytes, row[2], row[3]),
+            key: part(
+                bytes,
+                row[sys::HEADER_KEY_START],
+                row[sys::HEADER_KEY_LENGTH],
+            ),
+            value: part(
+                bytes,
+                row[sys::HEADER_VALUE_START],
+                row[sys::HEADER_VALUE_LENGTH],
+            ),
         })
     }
 }
@@ -278,6 +489,18 @@ impl fmt::Debug for Record<'_, '_> {
 }
 
 /// A header of a [`Record`], with key and value as parts of the bytes.
+///
+/// ```
+/// # use oddrafisk::{Batch, BatchBuilder};
+/// # let headers = [("gate", Some(b"4".as_slice())), ("gate", Some(b"5"))];
+/// # let bytes = BatchBuilder::default().push(0, None, None, &headers)?.to_vec()?;
+/// # let batch = Batch::read(&bytes)?;
+/// # let record = batch.records().next().unwrap();
+/// // Keys may stand more than once.
+/// let gates = record.headers().filter(|header| header.key() == "gate");
+/// assert!(gates.map(|header| header.value()).eq([b"4", b"5"]));
+/// # Ok::<(), Box<dyn std::error::Error>>(())
+/// ```
 #[derive(Debug, Clone, Copy, PartialEq, Eq, Hash)]
 pub struct Header<'a> {
     key: &'a [u8],
@@ -287,16 +510,46 @@ pub struct Header<'a> {
 impl<'a> Header<'a> {
     /// Its key. That it is UTF-8 was judged in reading; to have it as a `str` without `unsafe` it
     /// is looked at once more, in each call. [`key_bytes`](Header::key_bytes) costs nothing.
+    ///
+    /// ```
+    /// # use oddrafisk::{Batch, BatchBuilder};
+    /// # let headers = [("gate", Some(b"4".as_slice()))];
+    /// # let bytes = BatchBuilder::default().push(0, None, None, &headers)?.to_vec()?;
+    /// # let batch = Batch::read(&bytes)?;
+    /// # let header = batch.records().next().unwrap().headers().next().unwrap();
+    /// assert_eq!(header.key(), "gate");
+    /// # Ok::<(), Box<dyn std::error::Error>>(())
+    /// ```
     pub fn key(&self) -> &'a str {
-        std::str::from_utf8(self.key).expect("the reader refuses keys that are not UTF-8")
+        str::from_utf8(self.key).expect("the reader refuses keys that are not UTF-8")
     }
 
     /// The bytes of its key.
+    ///
+    /// ```
+    /// # use oddrafisk::{Batch, BatchBuilder};
+    /// # let headers = [("gate", Some(b"4".as_slice()))];
+    /// # let bytes = BatchBuilder::default().push(0, None, None, &headers)?.to_vec()?;
+    /// # let batch = Batch::read(&bytes)?;
+    /// # let header = batch.records().next().unwrap().headers().next().unwrap();
+    /// assert_eq!(header.key_bytes(), b"gate");
+    /// # Ok::<(), Box<dyn std::error::Error>>(())
+    /// ```
     pub fn key_bytes(&self) -> &'a [u8] {
         self.key
     }
 
     /// Its value.
+    ///
+    /// ```
+    /// # use oddrafisk::{Batch, BatchBuilder};
+    /// # let headers = [("gate", Some(b"4".as_slice()))];
+    /// # let bytes = BatchBuilder::default().push(0, None, None, &headers)?.to_vec()?;
+    /// # let batch = Batch::read(&bytes)?;
+    /// # let header = batch.records().next().unwrap().headers().next().unwrap();
+    /// assert_eq!(header.value(), b"4");
+    /// # Ok::<(), Box<dyn std::error::Error>>(())
+    /// ```
     pub fn value(&self) -> &'a [u8] {
         self.value
     }
@@ -304,6 +557,9 @@ impl<'a> Header<'a> {
 
 /// The time of a record with this delta, in a batch with this timestamp type, first and greatest
 /// timestamp; none where it leaves 64 bits.
+///
+/// Under log append Kafka takes the greatest timestamp for the time of every record. This does not
+/// yet (request C-12): the first timestamp and the delta are added up, whichever the type.
 ///
 /// ```
 /// use oddrafisk::{record_time, TimestampType::CreateTime};
@@ -317,7 +573,15 @@ pub fn record_time(
     max_timestamp: i64,
     delta: i64,
 ) -> Option<i64> {
-    ffi::record_time(timestamp_type as i64, first_timestamp, max_timestamp, delta)
+    let mut answer = [0];
+    let known = sys::record_time(
+        timestamp_type as i64,
+        first_timestamp,
+        max_timestamp,
+        delta,
+        &mut answer,
+    );
+    (known != 0).then_some(answer[0])
 }
 
 /// What a row's start and length show. They lie in the bytes by the reader's promise, and Rust

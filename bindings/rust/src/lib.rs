@@ -1,17 +1,20 @@
 #![doc = include_str!("../README.md")]
-#![deny(missing_docs, unsafe_code)]
+#![no_std]
+#![forbid(unsafe_code)]
+#![deny(missing_docs)]
+
+extern crate alloc;
 
 mod batch;
-mod c;
-#[allow(unsafe_code)]
-mod ffi;
+mod log;
 mod reading;
 mod refusal;
 mod writing;
 
 pub use batch::{record_time, Batch, Fields, Header, Kind, Marker, Outline, Record, TimestampType};
-pub use reading::{check, is_canonical, Log, LogError, ReadError, Reader};
-pub use refusal::{Refusal, WriteRefusal};
+pub use log::{Log, LogError};
+pub use reading::{check, framed, is_canonical, ReadError, Reader};
+pub use refusal::{PushRefusal, Refusal, WriteRefusal};
 pub use writing::{BatchBuilder, NewRecord};
 
 /// CRC-32C (Castagnoli) of the bytes.
@@ -23,5 +26,5 @@ pub use writing::{BatchBuilder, NewRecord};
 /// assert_eq!(oddrafisk::crc32c(b"123456789"), 0xE306_9283);
 /// ```
 pub fn crc32c(bytes: &[u8]) -> u32 {
-    ffi::crc32c(bytes)
+    oddrafisk_sys::crc32c(bytes)
 }

@@ -1,14 +1,25 @@
-//! Reading: one batch, or a log of them.
+//! Reading one batch.
 
-use std::borrow::Cow;
-use std::error::Error;
-use std::fmt;
-use std::iter::FusedIterator;
+use alloc::borrow::Cow;
+use alloc::vec::Vec;
+use core::error::Error;
+use core::fmt;
 
-use crate::ffi::{self, Entries, HeaderRow, RecordRow};
+use oddrafisk_sys::{self as sys, Entries, HeaderRow, RecordRow};
+
 use crate::{Batch, Outline, Refusal};
 
 /// Why no batch was read.
+///
+/// ```
+/// use oddrafisk::{check, ReadError, Refusal};
+///
+/// let mut bytes = oddrafisk::BatchBuilder::default().to_vec()?;
+/// assert_eq!(check(&bytes[..40]), Err(ReadError::MoreBytes { needed: 61 }));
+/// bytes[60] = 1;
+/// assert_eq!(check(&bytes), Err(ReadError::Refused(Refusal::ChecksumDiffers)));
+/// # Ok::<(), oddrafisk::WriteRefusal>(())
+/// ```
 #[derive(Debug, Clone, Copy, PartialEq, Eq, Hash)]
 pub enum ReadError {
     /// The bytes may be the beginning of a batch: with fewer than `needed`, counted from the first,
@@ -24,9 +35,13 @@ pub enum ReadError {
 
 impl ReadError {
     /// Its number: 1 for more bytes, else the refusal's.
+    ///
+    /// ```
+    /// assert_eq!(oddrafisk::check(&[]).unwrap_err().number(), 1);
+    /// ```
     pub fn number(self) -> u32 {
         match self {
-            ReadError::MoreBytes { .. } => ffi::MORE_BYTES,
+            ReadError::MoreBytes { .. } => sys::MORE_BYTES,
             ReadError::Refused(refusal) => refusal.number(),
         }
     }
@@ -63,9 +78,47 @@ impl Error for ReadError {}
 /// # Ok::<(), Box<dyn std::error::Error>>(())
 /// ```
 pub fn check(bytes: &[u8]) -> Result<Outline, ReadError> {
-    let (number, entries) = ffi::check(bytes);
+    let mut entries = [0; sys::ENTRIES];
+    let number = sys::check(bytes, &mut entries);
     outline(number, &entries)
 }
+
+/// How many bytes the batch that the bytes begin with has, by its own length: what stands after
+/// its first 17 bytes is not looked at, and need not be there.
+///
+/// - With fewer than 12 bytes the answer is [`MoreBytes`](ReadError::MoreBytes) and 12; with fewer
+///   than 17, where the length is not refused, `MoreBytes` and 17.
+/// - [`LengthTooSmall`](Refusal::LengthTooSmall) and [`UnknownMagic`](Refusal::UnknownMagic) are
+///   refused here too, since what has no magic byte of 2 has no such length.
+/// - Otherwise the answer is the number of bytes, at least 21, and it is the one that
+///   [`check`] and [`Reader::read`] answer by: they need as many bytes, and of a batch that they
+///   accept [`Outline::bytes`] is that number.
+///
+/// So one can go on after a batch that is refused: see
+/// [going on after damage](crate#going-on-after-damage) for what may go wrong with it.
+///
+/// ```
+/// use oddrafisk::{check, framed, ReadError, Refusal};
+///
+/// let mut log = oddrafisk::BatchBuilder::default().to_vec()?;
+/// log.extend(oddrafisk::BatchBuilder::default().to_vec()?);
+/// log[30] ^= 1;
+/// assert_eq!(check(&log), Err(ReadError::Refused(Refusal::ChecksumDiffers)));
+/// let next = framed(&log)?;
+/// assert!(check(&log[next..]).is_ok());
+/// # Ok::<(), Box<dyn std::error::Error>>(())
+/// ```
+pub fn framed(bytes: &[u8]) -> Result<usize, ReadError> {
+    match check(&bytes[..bytes.len().min(FRAME)]) {
+        Err(ReadError::MoreBytes { needed }) if FRAME < needed => Ok(needed),
+        Err(error) => Err(error),
+        Ok(outline) => Ok(outline.bytes),
+    }
+}
+
+/// The bytes up to the magic byte, with which the length of a batch is settled. No batch is as
+/// short as that.
+const FRAME: usize = 17;
 
 /// Whether the bytes, all of them, are one batch just as [`BatchBuilder`](crate::BatchBuilder)
 /// writes it.
@@ -81,31 +134,48 @@ pub fn check(bytes: &[u8]) -> Result<Outline, ReadError> {
 /// # Ok::<(), oddrafisk::WriteRefusal>(())
 /// ```
 pub fn is_canonical(bytes: &[u8]) -> bool {
-    ffi::is_canonical(bytes)
+    sys::is_canonical(bytes) != 0
 }
 
-impl<'a> Batch<'a> {
+impl<'a> Batch<'a, 'static> {
     /// Reads the batch that the bytes begin with. What follows it is not looked at.
     ///
     /// Bytes that may change meanwhile, as those of a mapped file that is written, are to be copied
     /// first: [what a caller owes](crate#what-a-caller-owes).
+    ///
+    /// ```
+    /// # use oddrafisk::{Batch, BatchBuilder};
+    /// # let bytes = BatchBuilder::default().push(0, None, Some(b"A"), &[])?.to_vec()?;
+    /// assert_eq!(Batch::read(&bytes)?.records().len(), 1);
+    /// # Ok::<(), Box<dyn std::error::Error>>(())
+    /// ```
     pub fn read(bytes: &'a [u8]) -> Result<Self, ReadError> {
-        Reader::new().read_owned(bytes)
+        Ok(Reader::new().read(bytes)?.into_owned())
     }
 }
 
 /// Reads one batch after the other with the same tables, which grow as batches need it and are
 /// never cleared.
 ///
-/// A batch then costs no allocation, and has to be let go before the next is read. For one that may
-/// be kept use [`Batch::read`] or [`Log`]. A batch needs less than 16 times its bytes in tables.
+/// A batch then costs no allocation, and has to be let go before the next is read; its keys and
+/// values may be kept as long as the bytes are there. A batch that is to be kept itself is made by
+/// [`Batch::into_owned`], [`Batch::read`] or [`Log`](crate::Log). A batch needs less than 16 times
+/// its bytes in tables.
 ///
 /// ```
-/// # let bytes = oddrafisk::BatchBuilder::default().to_vec()?;
-/// let mut reader = oddrafisk::Reader::new();
-/// for part in [&bytes, &bytes] {
-///     assert_eq!(reader.read(part)?.fields().base_offset, 0);
+/// use std::collections::HashMap;
+/// use oddrafisk::{BatchBuilder, Reader};
+///
+/// let first = BatchBuilder::default().push(0, Some(b"a"), Some(b"1"), &[])?.to_vec()?;
+/// let second = BatchBuilder::default().push(0, Some(b"a"), Some(b"2"), &[])?.to_vec()?;
+/// let mut latest: HashMap<&[u8], &[u8]> = HashMap::new();
+/// let mut reader = Reader::new();
+/// for bytes in [&first, &second] {
+///     for record in reader.read(bytes)?.records() {
+///         latest.insert(record.key().unwrap(), record.value().unwrap());
+///     }
 /// }
+/// assert_eq!(latest[b"a".as_slice()], b"2");
 /// # Ok::<(), Box<dyn std::error::Error>>(())
 /// ```
 #[derive(Default)]
@@ -116,6 +186,11 @@ pub struct Reader {
 
 impl Reader {
     /// A reader whose tables are still empty.
+    ///
+    /// ```
+    /// let mut reader = oddrafisk::Reader::new();
+    /// assert_eq!(reader.read(&[]).unwrap_err().number(), 1);
+    /// ```
     pub fn new() -> Self {
         Reader::default()
     }
@@ -124,7 +199,15 @@ impl Reader {
     ///
     /// Bytes that may change meanwhile, as those of a mapped file that is written, are to be copied
     /// first: [what a caller owes](crate#what-a-caller-owes).
-    pub fn read<'a>(&'a mut self, bytes: &'a [u8]) -> Result<Batch<'a>, ReadError> {
+    ///
+    /// ```
+    /// # let bytes = oddrafisk::BatchBuilder::default().to_vec()?;
+    /// let mut reader = oddrafisk::Reader::new();
+    /// let length = reader.read(&bytes)?.bytes().len();
+    /// assert_eq!(reader.read(&bytes[length..]).unwrap_err().number(), 1);
+    /// # Ok::<(), Box<dyn std::error::Error>>(())
+    /// ```
+    pub fn read<'a>(&mut self, bytes: &'a [u8]) -> Result<Batch<'a, '_>, ReadError> {
         let outline = self.fill(bytes)?;
         Ok(Batch {
             outline,
@@ -134,35 +217,25 @@ impl Reader {
         })
     }
 
-    /// The same, with rows of its own.
-    fn read_owned<'a>(&mut self, bytes: &'a [u8]) -> Result<Batch<'a>, ReadError> {
-        let outline = self.fill(bytes)?;
-        Ok(Batch {
-            outline,
-            bytes: &bytes[..outline.bytes],
-            records: Cow::Owned(self.records[..outline.records].to_vec()),
-            headers: Cow::Owned(self.headers[..outline.headers].to_vec()),
-        })
-    }
-
     /// Fills the first rows of the tables. "No room" names the rows that are needed, and only where
     /// the bytes are a batch, so it is met once at the most.
     fn fill(&mut self, bytes: &[u8]) -> Result<Outline, ReadError> {
-        let (mut number, mut entries) = ffi::read(bytes, &mut self.records, &mut self.headers);
-        if number == ffi::NO_ROOM {
-            grow(
-                &mut self.records,
-                entries[ffi::RECORDS],
-                [0; ffi::RECORD_ROW],
-            );
-            grow(
-                &mut self.headers,
-                entries[ffi::HEADERS],
-                [0; ffi::HEADER_ROW],
-            );
-            (number, entries) = ffi::read(bytes, &mut self.records, &mut self.headers);
+        let (mut number, mut entries) = self.read_rows(bytes);
+        if number == sys::NO_ROOM {
+            let empty = ([0; sys::RECORD_ROW], [0; sys::HEADER_ROW]);
+            grow(&mut self.records, entries[sys::RECORDS], empty.0);
+            grow(&mut self.headers, entries[sys::HEADERS], empty.1);
+            (number, entries) = self.read_rows(bytes);
         }
         outline(number, &entries)
+    }
+
+    fn read_rows(&mut self, bytes: &[u8]) -> (u32, Entries) {
+        let mut entries = [0; sys::ENTRIES];
+        let records = self.records.as_flattened_mut();
+        let headers = self.headers.as_flattened_mut();
+        let number = sys::read(bytes, records, headers, &mut entries);
+        (number, entries)
     }
 }
 
@@ -172,102 +245,11 @@ impl fmt::Debug for Reader {
     }
 }
 
-/// The batches of a log that is held in memory, one after the other.
-///
-/// It ends where the log ends, or with the first error: nothing is read past a batch that is
-/// refused or cut off. Each batch has rows of its own and may be kept; its keys and values are
-/// parts of the log's bytes.
-///
-/// ```
-/// use oddrafisk::{Log, LogError, ReadError};
-///
-/// let mut bytes = oddrafisk::BatchBuilder::default().to_vec().unwrap();
-/// bytes.extend([0, 0, 0]);
-/// let mut log = Log::new(&bytes);
-/// assert!(log.next().unwrap().is_ok());
-/// let reason = ReadError::MoreBytes { needed: 12 };
-/// assert_eq!(log.next().unwrap().unwrap_err(), LogError { place: 61, reason });
-/// assert!(log.next().is_none());
-/// ```
-pub struct Log<'a> {
-    bytes: &'a [u8],
-    place: usize,
-    stopped: bool,
-    reader: Reader,
-}
-
-impl<'a> Log<'a> {
-    /// The log that these bytes are, from its beginning.
-    ///
-    /// Bytes that may change meanwhile, as those of a mapped file that is written, are to be copied
-    /// first: [what a caller owes](crate#what-a-caller-owes).
-    pub fn new(bytes: &'a [u8]) -> Self {
-        Log {
-            bytes,
-            place: 0,
-            stopped: false,
-            reader: Reader::new(),
-        }
-    }
-
-    /// Where the next batch starts; after an error, the batch that was not read.
-    pub fn place(&self) -> usize {
-        self.place
-    }
-}
-
-impl<'a> Iterator for Log<'a> {
-    type Item = Result<Batch<'a>, LogError>;
-
-    fn next(&mut self) -> Option<Self::Item> {
-        if self.stopped || self.place == self.bytes.len() {
-            return None;
-        }
-        let place = self.place;
-        let read = self.reader.read_owned(&self.bytes[place..]);
-        match &read {
-            Ok(batch) => self.place += batch.bytes.len(),
-            Err(_) => self.stopped = true,
-        }
-        Some(read.map_err(|reason| LogError { place, reason }))
-    }
-}
-
-impl FusedIterator for Log<'_> {}
-
-impl fmt::Debug for Log<'_> {
-    fn fmt(&self, f: &mut fmt::Formatter<'_>) -> fmt::Result {
-        f.debug_struct("Log")
-            .field("length", &self.bytes.len())
-            .field("place", &self.place)
-            .field("stopped", &self.stopped)
-            .finish_non_exhaustive()
-    }
-}
-
-/// Why a log cannot be read on.
-#[derive(Debug, Clone, Copy, PartialEq, Eq, Hash)]
-pub struct LogError {
-    /// Where the batch that was not read starts: all before it was read.
-    pub place: usize,
-    /// Why it was not read. [`MoreBytes`](ReadError::MoreBytes) is a log that is cut off, and
-    /// counts from `place`.
-    pub reason: ReadError,
-}
-
-impl fmt::Display for LogError {
-    fn fmt(&self, f: &mut fmt::Formatter<'_>) -> fmt::Result {
-        write!(f, "at {}: {}", self.place, self.reason)
-    }
-}
-
-impl Error for LogError {}
-
 fn outline(number: u32, entries: &Entries) -> Result<Outline, ReadError> {
     match number {
-        ffi::ACCEPTED => Ok(Outline::of_entries(entries)),
-        ffi::MORE_BYTES => Err(ReadError::MoreBytes {
-            needed: entries[ffi::BYTES] as usize,
+        sys::ACCEPTED => Ok(Outline::of_entries(entries)),
+        sys::MORE_BYTES => Err(ReadError::MoreBytes {
+            needed: entries[sys::BYTES] as usize,
         }),
         _ => Err(Refusal::of_number(number)
             .expect("the reader has no other number")

@@ -1,10 +1,16 @@
 //! Why a batch is refused.
 
-use std::error::Error;
-use std::fmt;
+use core::error::Error;
+use core::fmt;
 
 /// Why the bytes begin with no batch, whatever bytes may follow them. It is the first fault in the
 /// order of reading.
+///
+/// ```
+/// use oddrafisk::{check, ReadError, Refusal};
+///
+/// assert_eq!(check(&[0; 12]), Err(ReadError::Refused(Refusal::LengthTooSmall)));
+/// ```
 #[derive(Debug, Clone, Copy, PartialEq, Eq, Hash)]
 #[non_exhaustive]
 pub enum Refusal {
@@ -51,6 +57,10 @@ impl Refusal {
     ];
 
     /// Its number, 2 to 13.
+    ///
+    /// ```
+    /// assert_eq!(oddrafisk::Refusal::ChecksumDiffers.number(), 4);
+    /// ```
     pub fn number(self) -> u32 {
         self as u32
     }
@@ -61,7 +71,12 @@ impl Refusal {
             .find(|refusal| refusal.number() == number)
     }
 
-    fn words(self) -> &'static str {
+    /// What it is, in plain words.
+    ///
+    /// ```
+    /// assert_eq!(oddrafisk::Refusal::ChecksumDiffers.words(), "the checksum differs");
+    /// ```
+    pub fn words(self) -> &'static str {
         match self {
             Refusal::LengthTooSmall => "the length of the batch is too small",
             Refusal::UnknownMagic => "the magic byte is not 2",
@@ -89,12 +104,21 @@ impl Error for Refusal {}
 
 /// Why a batch cannot be written.
 ///
-/// The writer has three more numbers, 20 to 22, for a codec, for rows that no batch has and for
-/// keys that are not UTF-8. They do not come up here: [`BatchBuilder`](crate::BatchBuilder) asks
-/// for no codec, makes the rows itself and takes the keys of headers as `str`.
+/// The writer has two more numbers, 20 and 22, for a codec and for keys that are not UTF-8. They do
+/// not come up here: [`BatchBuilder`](crate::BatchBuilder) asks for no codec and takes the keys of
+/// headers as `str`.
+///
+/// ```
+/// use oddrafisk::{BatchBuilder, WriteRefusal};
+///
+/// assert_eq!(BatchBuilder::default().write(&mut [0; 60]), Err(WriteRefusal::ShortOutput));
+/// ```
 #[derive(Debug, Clone, Copy, PartialEq, Eq, Hash)]
 #[non_exhaustive]
 pub enum WriteRefusal {
+    /// No batch has such a row: the value of a header is null, which is not written yet (request
+    /// C-15). All else in the rows [`BatchBuilder`](crate::BatchBuilder) makes as it is to be.
+    WrongRow = 21,
     /// batchLength would exceed 2147483647.
     TooLong = 23,
     /// The output is shorter than the batch.
@@ -102,19 +126,37 @@ pub enum WriteRefusal {
 }
 
 impl WriteRefusal {
-    /// Its number, 23 or 24.
+    const ALL: [WriteRefusal; 3] = [
+        WriteRefusal::WrongRow,
+        WriteRefusal::TooLong,
+        WriteRefusal::ShortOutput,
+    ];
+
+    /// Its number: 21, 23 or 24.
+    ///
+    /// ```
+    /// assert_eq!(oddrafisk::WriteRefusal::ShortOutput.number(), 24);
+    /// ```
     pub fn number(self) -> u32 {
         self as u32
     }
 
     pub(crate) fn of_number(number: u32) -> Option<WriteRefusal> {
-        [WriteRefusal::TooLong, WriteRefusal::ShortOutput]
+        WriteRefusal::ALL
             .into_iter()
             .find(|refusal| refusal.number() == number)
     }
 
-    fn words(self) -> &'static str {
+    /// What it is, in plain words.
+    ///
+    /// ```
+    /// use oddrafisk::WriteRefusal::ShortOutput;
+    ///
+    /// assert_eq!(ShortOutput.words(), "the output is shorter than the batch");
+    /// ```
+    pub fn words(self) -> &'static str {
         match self {
+            WriteRefusal::WrongRow => "an entry or a row is asked for that no batch has",
             WriteRefusal::TooLong => {
                 "the batch would be longer than 2147483647 bytes after its length"
             }
@@ -130,3 +172,86 @@ impl fmt::Display for WriteRefusal {
 }
 
 impl Error for WriteRefusal {}
+
+/// Why a record cannot come next in a batch. The batch is as it was.
+///
+/// ```
+/// use oddrafisk::{BatchBuilder, PushRefusal};
+///
+/// let mut builder = BatchBuilder::default();
+/// builder.push(-2, None, None, &[])?;
+/// assert_eq!(builder.push(i64::MAX, None, None, &[]).unwrap_err(), PushRefusal::Timestamp);
+/// # Ok::<(), PushRefusal>(())
+/// ```
+#[derive(Debug, Clone, Copy, PartialEq, Eq, Hash)]
+#[non_exhaustive]
+pub enum PushRefusal {
+    /// The time, counted from that of the first record, leaves 64 bits.
+    Timestamp,
+    /// The offset, counted from the base offset, leaves 32 bits, or itself 64.
+    Offset,
+    /// The value of a header is null, which is not written yet (request C-15).
+    NullHeaderValue,
+}
+
+impl fmt::Display for PushRefusal {
+    fn fmt(&self, f: &mut fmt::Formatter<'_>) -> fmt::Result {
+        f.write_str(match self {
+            PushRefusal::Timestamp => "the time, counted from the first record's, leaves 64 bits",
+            PushRefusal::Offset => "the offset leaves 64 bits, or counted from the base offset 32",
+            PushRefusal::NullHeaderValue => "the value of a header is null",
+        })
+    }
+}
+
+impl Error for PushRefusal {}
+
+#[cfg(test)]
+mod tests {
+    use super::*;
+
+    /// The number that the header gives to a name.
+    fn in_header(name: &str) -> u32 {
+        let header = include_str!("../../c/oddrafisk.h");
+        let (_, rest) = header
+            .split_once(&alloc::format!(" ODDRAFISK_{name} = "))
+            .expect(name);
+        let digits = rest.split(|c: char| !c.is_ascii_digit()).next().unwrap();
+        digits.parse().expect(name)
+    }
+
+    #[test]
+    fn numbers_are_the_header_s() {
+        let numbers = [
+            ("LENGTH_TOO_SMALL", Refusal::LengthTooSmall.number()),
+            ("UNKNOWN_MAGIC", Refusal::UnknownMagic.number()),
+            ("CHECKSUM_DIFFERS", Refusal::ChecksumDiffers.number()),
+            ("UNKNOWN_CODEC", Refusal::UnknownCodec.number()),
+            ("COMPRESSED", Refusal::Compressed.number()),
+            ("WRONG_COUNT", Refusal::WrongCount.number()),
+            ("PAST_END", Refusal::PastEnd.number()),
+            ("BEYOND_LIMITS", Refusal::BeyondLimits.number()),
+            ("NEGATIVE_LENGTH", Refusal::NegativeLength.number()),
+            ("KEY_NOT_UTF8", Refusal::KeyNotUtf8.number()),
+            ("UNKNOWN_CONTROL", Refusal::UnknownControl.number()),
+            ("BYTES_LEFT", Refusal::BytesLeft.number()),
+            ("WRONG_ROW", WriteRefusal::WrongRow.number()),
+            ("TOO_LONG", WriteRefusal::TooLong.number()),
+            ("SHORT_OUTPUT", WriteRefusal::ShortOutput.number()),
+        ];
+        for (name, number) in numbers {
+            assert_eq!(in_header(name), number, "{name}");
+        }
+    }
+
+    /// Whoever reads C and whoever reads Rust is told the same.
+    #[test]
+    fn words_are_the_header_s() {
+        let header = include_str!("../../c/oddrafisk.h");
+        let readers = Refusal::ALL.map(Refusal::words);
+        let writers = WriteRefusal::ALL.map(WriteRefusal::words);
+        for words in readers.into_iter().chain(writers) {
+            assert!(header.contains(&alloc::format!("\"{words}\"")), "{words}");
+        }
+    }
+}

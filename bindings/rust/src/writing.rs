@@ -1,9 +1,28 @@
 //! Writing: batches of records, and markers.
 
-use crate::ffi::{self, Asked, HeaderRow, RecordRow};
-use crate::{Fields, Kind, Marker, TimestampType, WriteRefusal};
+use alloc::vec::Vec;
 
-/// A record to be written. The default has neither key nor value nor headers, and both deltas 0.
+use oddrafisk_sys::{self as sys, Entries, HeaderRow, RecordRow};
+
+use crate::{Fields, Kind, Marker, PushRefusal, TimestampType, WriteRefusal};
+
+/// A record to be written, with both its deltas. The default has neither key nor value nor headers,
+/// and both deltas 0: of several such records all would have the same offset.
+/// [`BatchBuilder::push`] counts by itself.
+///
+/// ```
+/// use oddrafisk::{Batch, BatchBuilder, NewRecord};
+///
+/// // A batch of which compaction has taken the records between.
+/// let mut builder = BatchBuilder::default();
+/// for offset_delta in [0, 7] {
+///     builder.record(NewRecord { offset_delta, ..NewRecord::default() });
+/// }
+/// let bytes = builder.to_vec()?;
+/// let offsets = Batch::read(&bytes)?.records().map(|record| record.offset()).collect::<Vec<_>>();
+/// assert_eq!(offsets, [Some(0), Some(7)]);
+/// # Ok::<(), Box<dyn std::error::Error>>(())
+/// ```
 #[derive(Debug, Clone, Copy, PartialEq, Eq, Hash, Default)]
 pub struct NewRecord<'a> {
     /// Its time, counted from the batch's `first_timestamp`.
@@ -15,22 +34,27 @@ pub struct NewRecord<'a> {
     pub key: Option<&'a [u8]>,
     /// Its value; none is null.
     pub value: Option<&'a [u8]>,
-    /// Keys and values of its headers.
-    pub headers: &'a [(&'a str, &'a [u8])],
+    /// Keys and values of its headers. A value that is null is refused in writing, by
+    /// [`WrongRow`](WriteRefusal::WrongRow), until request C-15 is there.
+    pub headers: &'a [(&'a str, Option<&'a [u8]>)],
 }
 
 /// Puts a batch of records together and writes it.
 ///
 /// ```
-/// use oddrafisk::{Batch, BatchBuilder, Fields, NewRecord};
+/// use oddrafisk::{BatchBuilder, Fields, Log};
 ///
+/// let mut log = Vec::new();
 /// let mut builder = BatchBuilder::new(Fields { base_offset: 7, ..Fields::default() });
-/// builder.record(NewRecord { value: Some(b"A"), ..NewRecord::default() });
-/// let bytes = builder.to_vec()?;
+/// builder.push(1_731_657_600_000, Some(b"cookie-1"), Some(b"server-3"), &[])?;
+/// builder.push(1_731_657_600_020, Some(b"cookie-2"), None, &[("gate", Some(b"4"))])?;
+/// builder.append_to(&mut log)?;
+/// builder.next_batch()?.push(1_731_657_600_050, Some(b"cookie-3"), Some(b"server-1"), &[])?;
+/// builder.append_to(&mut log)?;
 ///
-/// let batch = Batch::read(&bytes)?;
-/// let record = batch.records().next().unwrap();
-/// assert_eq!((record.offset(), record.value()), (Some(7), Some(b"A".as_slice())));
+/// let batches = Log::new(&log).collect::<Result<Vec<_>, _>>()?;
+/// let offsets = batches.iter().flat_map(|batch| batch.records().map(|record| record.offset()));
+/// assert!(offsets.eq([Some(7), Some(8), Some(9)]));
 /// # Ok::<(), Box<dyn std::error::Error>>(())
 /// ```
 #[derive(Debug, Clone, Default)]
@@ -44,6 +68,14 @@ pub struct BatchBuilder {
 
 impl BatchBuilder {
     /// A batch with these fields, and no records yet.
+    ///
+    /// ```
+    /// use oddrafisk::{BatchBuilder, Fields};
+    ///
+    /// let builder = BatchBuilder::new(Fields { base_offset: 7, ..Fields::default() });
+    /// assert_eq!(oddrafisk::check(&builder.to_vec()?)?.fields.base_offset, 7);
+    /// # Ok::<(), Box<dyn std::error::Error>>(())
+    /// ```
     pub fn new(fields: Fields) -> Self {
         BatchBuilder {
             fields,
@@ -51,17 +83,73 @@ impl BatchBuilder {
         }
     }
 
-    /// Adds a record after those that are there.
+    /// Adds a record, at the next offset and with this time, in milliseconds since 1970.
+    ///
+    /// The batch keeps its fields right: `first_timestamp` is the time of the first record,
+    /// `last_offset_delta` counts the records, and under create time `max_timestamp` is the
+    /// greatest of their times. Under log append `max_timestamp` is what the broker says, and stays
+    /// as it is. What is refused changes nothing.
+    ///
+    /// ```
+    /// use oddrafisk::BatchBuilder;
+    ///
+    /// let mut builder = BatchBuilder::default();
+    /// builder.push(1000, Some(b"cookie-1"), Some(b"server-3"), &[])?;
+    /// builder.push(1020, Some(b"cookie-2"), None, &[("gate", Some(b"4"))])?;
+    /// builder.push(1010, None, None, &[])?;
+    /// let fields = &builder.fields;
+    /// assert_eq!((fields.first_timestamp, fields.max_timestamp), (1000, 1020));
+    /// assert_eq!(fields.last_offset(), Some(2));
+    /// # Ok::<(), oddrafisk::PushRefusal>(())
+    /// ```
+    pub fn push(
+        &mut self,
+        timestamp: i64,
+        key: Option<&[u8]>,
+        value: Option<&[u8]>,
+        headers: &[(&str, Option<&[u8]>)],
+    ) -> Result<&mut Self, PushRefusal> {
+        if headers.iter().any(|(_, value)| value.is_none()) {
+            return Err(PushRefusal::NullHeaderValue);
+        }
+        let timestamp_delta = match self.records.last() {
+            None => 0,
+            Some(_) => timestamp
+                .checked_sub(self.fields.first_timestamp)
+                .ok_or(PushRefusal::Timestamp)?,
+        };
+        let offset_delta = self.next_offset_delta()?;
+        if self.records.is_empty() {
+            self.start_counting(timestamp);
+        }
+        Ok(self.record(NewRecord {
+            timestamp_delta,
+            offset_delta,
+            key,
+            value,
+            headers,
+        }))
+    }
+
+    /// Adds a record with deltas of the caller's own after those that are there.
     ///
     /// `last_offset_delta`, and under create time `max_timestamp`, are raised where the record lies
     /// past them, so that they need not be worked out beforehand. They are never lowered: a batch
     /// may say more than its records need.
+    ///
+    /// ```
+    /// use oddrafisk::{BatchBuilder, NewRecord};
+    ///
+    /// let mut builder = BatchBuilder::default();
+    /// builder.record(NewRecord { offset_delta: 7, ..NewRecord::default() });
+    /// assert_eq!(builder.fields.last_offset_delta, 7);
+    /// ```
     pub fn record(&mut self, record: NewRecord<'_>) -> &mut Self {
         self.cover(&record);
         let first_header = self.headers.len() as i64;
         for &(key, value) in record.headers {
             let (key_start, key_length) = self.keep(key.as_bytes());
-            let (value_start, value_length) = self.keep(value);
+            let (value_start, value_length) = self.keep_nullable(value);
             self.headers
                 .push([key_start, key_length, value_start, value_length]);
         }
@@ -80,17 +168,84 @@ impl BatchBuilder {
         self
     }
 
-    /// Takes the records out. The fields stay as they are, and the memory is kept for the next
-    /// batch.
+    /// Takes the records out, and `first_timestamp`, `last_offset_delta` and `max_timestamp` with
+    /// them, which are again as in a batch without records. The other fields stay, and the memory
+    /// is kept for the next batch.
+    ///
+    /// ```
+    /// use oddrafisk::BatchBuilder;
+    ///
+    /// let mut builder = BatchBuilder::default();
+    /// builder.push(1000, Some(b"cookie-1"), None, &[])?.push(1020, None, None, &[])?;
+    /// builder.clear();
+    /// assert_eq!(builder.to_vec()?, BatchBuilder::default().to_vec()?);
+    /// # Ok::<(), Box<dyn std::error::Error>>(())
+    /// ```
     pub fn clear(&mut self) {
         self.records.clear();
         self.headers.clear();
         self.source.clear();
+        let empty = Fields::default();
+        self.fields.first_timestamp = empty.first_timestamp;
+        self.fields.last_offset_delta = empty.last_offset_delta;
+        self.fields.max_timestamp = empty.max_timestamp;
+    }
+
+    /// Begins the batch that follows this one in a log: [`clear`](BatchBuilder::clear)s it, after
+    /// `base_offset` was moved past its last offset, and `base_sequence`, where there is one, by
+    /// the number of its records (0 comes after the greatest). A batch without records has no
+    /// offset to be moved past.
+    ///
+    /// It is refused where the offset leaves 64 bits, and then changes nothing.
+    ///
+    /// ```
+    /// use oddrafisk::{BatchBuilder, Fields};
+    ///
+    /// let mut builder = BatchBuilder::new(Fields { base_offset: 7, ..Fields::default() });
+    /// builder.push(1000, None, None, &[])?.push(1020, None, None, &[])?.next_batch()?;
+    /// assert_eq!(builder.fields, Fields { base_offset: 9, ..Fields::default() });
+    /// # Ok::<(), oddrafisk::PushRefusal>(())
+    /// ```
+    pub fn next_batch(&mut self) -> Result<&mut Self, PushRefusal> {
+        if !self.records.is_empty() {
+            let last = self.fields.last_offset().ok_or(PushRefusal::Offset)?;
+            self.fields.base_offset = last.checked_add(1).ok_or(PushRefusal::Offset)?;
+            if 0 <= self.fields.base_sequence {
+                let next = self.fields.base_sequence as usize + self.records.len();
+                self.fields.base_sequence = (next % (1 << 31)) as i32;
+            }
+        }
+        self.clear();
+        Ok(self)
+    }
+
+    /// How many records it has.
+    ///
+    /// ```
+    /// let mut builder = oddrafisk::BatchBuilder::default();
+    /// assert_eq!(builder.push(0, None, None, &[])?.len(), 1);
+    /// # Ok::<(), oddrafisk::PushRefusal>(())
+    /// ```
+    pub fn len(&self) -> usize {
+        self.records.len()
+    }
+
+    /// Whether it has no records.
+    ///
+    /// ```
+    /// assert!(oddrafisk::BatchBuilder::default().is_empty());
+    /// ```
+    pub fn is_empty(&self) -> bool {
+        self.records.is_empty()
     }
 
     /// How many bytes the batch has when it is written.
+    ///
+    /// ```
+    /// assert_eq!(oddrafisk::BatchBuilder::default().measure(), Ok(61));
+    /// ```
     pub fn measure(&self) -> Result<usize, WriteRefusal> {
-        measure(&self.asked())
+        self.asked().measure()
     }
 
     /// Writes the batch to the start of the output and returns how many bytes it has. A refusal
@@ -98,21 +253,38 @@ impl BatchBuilder {
     ///
     /// Nobody else may use the output meanwhile, as another process could that maps the same file:
     /// [what a caller owes](crate#what-a-caller-owes).
+    ///
+    /// ```
+    /// let mut output = [0; 100];
+    /// let length = oddrafisk::BatchBuilder::default().write(&mut output)?;
+    /// assert!(oddrafisk::is_canonical(&output[..length]));
+    /// # Ok::<(), oddrafisk::WriteRefusal>(())
+    /// ```
     pub fn write(&self, output: &mut [u8]) -> Result<usize, WriteRefusal> {
-        write(&self.asked(), output)
+        self.asked().write(output)
     }
 
     /// Writes the batch after what the log has and returns how many bytes it has. A refusal changes
     /// nothing.
+    ///
+    /// ```
+    /// let mut log = Vec::new();
+    /// oddrafisk::BatchBuilder::default().append_to(&mut log)?;
+    /// assert_eq!(log.len(), 61);
+    /// # Ok::<(), oddrafisk::WriteRefusal>(())
+    /// ```
     pub fn append_to(&self, log: &mut Vec<u8>) -> Result<usize, WriteRefusal> {
-        append(&self.asked(), log)
+        self.asked().append_to(log)
     }
 
     /// The batch as bytes of its own.
+    ///
+    /// ```
+    /// assert_eq!(oddrafisk::BatchBuilder::default().to_vec()?.len(), 61);
+    /// # Ok::<(), oddrafisk::WriteRefusal>(())
+    /// ```
     pub fn to_vec(&self) -> Result<Vec<u8>, WriteRefusal> {
-        let mut bytes = Vec::new();
-        self.append_to(&mut bytes)?;
-        Ok(bytes)
+        self.asked().to_vec()
     }
 
     fn asked(&self) -> Asked<'_> {
@@ -121,6 +293,29 @@ impl BatchBuilder {
             records: &self.records,
             headers: &self.headers,
             source: &self.source,
+        }
+    }
+
+    /// The offset after that of the last record, counted from the base offset.
+    fn next_offset_delta(&self) -> Result<i32, PushRefusal> {
+        let delta = match self.records.last() {
+            None => 0,
+            Some(row) => row[sys::RECORD_OFFSET_DELTA] + 1,
+        };
+        let offset = self.fields.base_offset.checked_add(delta);
+        match (i32::try_from(delta), offset) {
+            (Ok(delta), Some(_)) => Ok(delta),
+            _ => Err(PushRefusal::Offset),
+        }
+    }
+
+    /// The fields of a batch whose first record has this time, as far as they count.
+    fn start_counting(&mut self, timestamp: i64) {
+        let fields = &mut self.fields;
+        fields.first_timestamp = timestamp;
+        fields.last_offset_delta = 0;
+        if fields.timestamp_type == TimestampType::CreateTime {
+            fields.max_timestamp = timestamp;
         }
     }
 
@@ -149,8 +344,34 @@ impl BatchBuilder {
 }
 
 impl Marker {
-    /// Writes the batch that ends a transaction with this marker after what the log has, and
-    /// returns how many bytes it has.
+    /// How many bytes the batch that ends a transaction with this marker has when it is written.
+    ///
+    /// ```
+    /// assert_eq!(oddrafisk::Marker::Commit.measure(), 65);
+    /// ```
+    pub fn measure(self) -> usize {
+        let asked = self.asked(&Fields::default());
+        asked.measure().expect(NEVER_REFUSED)
+    }
+
+    /// Writes that batch to the start of the output and returns how many bytes it has. A refusal,
+    /// which is [`ShortOutput`](WriteRefusal::ShortOutput) alone, changes nothing.
+    ///
+    /// Nobody else may use the output meanwhile, as another process could that maps the same file:
+    /// [what a caller owes](crate#what-a-caller-owes).
+    ///
+    /// ```
+    /// use oddrafisk::{Fields, Marker, WriteRefusal};
+    ///
+    /// let fields = Fields { producer_id: 4012, is_transactional: true, ..Fields::default() };
+    /// assert_eq!(Marker::Commit.write(&fields, &mut [0; 65]), Ok(65));
+    /// assert_eq!(Marker::Commit.write(&fields, &mut [0; 64]), Err(WriteRefusal::ShortOutput));
+    /// ```
+    pub fn write(self, fields: &Fields, output: &mut [u8]) -> Result<usize, WriteRefusal> {
+        self.asked(fields).write(output)
+    }
+
+    /// Writes that batch after what the log has, and returns how many bytes it has.
     ///
     /// The transaction is the one of the producer that the fields name; `is_transactional` is to be
     /// set for it.
@@ -165,34 +386,89 @@ impl Marker {
     /// # Ok::<(), oddrafisk::ReadError>(())
     /// ```
     pub fn append_to(self, fields: &Fields, log: &mut Vec<u8>) -> usize {
-        let asked = Asked {
+        self.asked(fields).append_to(log).expect(NEVER_REFUSED)
+    }
+
+    /// That batch as bytes of its own.
+    ///
+    /// ```
+    /// use oddrafisk::{Fields, Marker};
+    ///
+    /// let fields = Fields { producer_id: 4012, is_transactional: true, ..Fields::default() };
+    /// assert!(oddrafisk::is_canonical(&Marker::Abort.to_vec(&fields)));
+    /// ```
+    pub fn to_vec(self, fields: &Fields) -> Vec<u8> {
+        self.asked(fields).to_vec().expect(NEVER_REFUSED)
+    }
+
+    fn asked(self, fields: &Fields) -> Asked<'static> {
+        Asked {
             entries: fields.to_entries(Kind::Marker(self), 0),
             records: &[],
             headers: &[],
             source: &[],
-        };
-        append(&asked, log).expect("a marker is never refused")
+        }
     }
 }
 
-fn measure(asked: &Asked<'_>) -> Result<usize, WriteRefusal> {
-    length(ffi::measure(asked))
+const NEVER_REFUSED: &str = "a marker is never refused";
+
+/// The one codec that is written.
+const NO_CODEC: i64 = 0;
+
+/// A batch to be written.
+struct Asked<'a> {
+    entries: Entries,
+    records: &'a [RecordRow],
+    headers: &'a [HeaderRow],
+    source: &'a [u8],
 }
 
-fn write(asked: &Asked<'_>, output: &mut [u8]) -> Result<usize, WriteRefusal> {
-    length(ffi::write(asked, output))
+impl Asked<'_> {
+    fn measure(&self) -> Result<usize, WriteRefusal> {
+        let mut answer = [0];
+        let number = sys::measure(
+            &self.entries,
+            NO_CODEC,
+            self.records.as_flattened(),
+            self.headers.as_flattened(),
+            self.source,
+            &mut answer,
+        );
+        length(number, answer)
+    }
+
+    fn write(&self, output: &mut [u8]) -> Result<usize, WriteRefusal> {
+        let mut answer = [0];
+        let number = sys::write(
+            &self.entries,
+            NO_CODEC,
+            self.records.as_flattened(),
+            self.headers.as_flattened(),
+            self.source,
+            output,
+            &mut answer,
+        );
+        length(number, answer)
+    }
+
+    fn append_to(&self, log: &mut Vec<u8>) -> Result<usize, WriteRefusal> {
+        let bytes = self.measure()?;
+        let end = log.len();
+        log.resize(end + bytes, 0);
+        self.write(&mut log[end..])
+    }
+
+    fn to_vec(&self) -> Result<Vec<u8>, WriteRefusal> {
+        let mut bytes = Vec::new();
+        self.append_to(&mut bytes)?;
+        Ok(bytes)
+    }
 }
 
-fn append(asked: &Asked<'_>, log: &mut Vec<u8>) -> Result<usize, WriteRefusal> {
-    let bytes = measure(asked)?;
-    let end = log.len();
-    log.resize(end + bytes, 0);
-    write(asked, &mut log[end..])
-}
-
-fn length((number, bytes): (u32, i64)) -> Result<usize, WriteRefusal> {
+fn length(number: u32, [bytes]: [i64; 1]) -> Result<usize, WriteRefusal> {
     match number {
-        ffi::ACCEPTED => Ok(bytes as usize),
+        sys::ACCEPTED => Ok(bytes as usize),
         _ => Err(WriteRefusal::of_number(number).expect("what is asked here has no other fault")),
     }
 }
@@ -200,6 +476,8 @@ fn length((number, bytes): (u32, i64)) -> Result<usize, WriteRefusal> {
 #[cfg(test)]
 mod tests {
     use super::*;
+    use alloc::string::ToString;
+    use alloc::vec;
 
     /// Rows may show the same bytes again and again, so that 2 GiB need not be at hand.
     #[test]
@@ -212,9 +490,9 @@ mod tests {
             headers: &[],
             source: &source,
         };
-        assert!(measure(&asked(2047)).is_ok());
+        assert!(asked(2047).measure().is_ok());
         let mut log = vec![0xAA];
-        let refusal = append(&asked(2048), &mut log).unwrap_err();
+        let refusal = asked(2048).append_to(&mut log).unwrap_err();
         assert_eq!((refusal, refusal.number()), (WriteRefusal::TooLong, 23));
         assert!(refusal.to_string().ends_with("(number 23)"));
         assert_eq!(log, [0xAA]);

@@ -152,6 +152,95 @@ fn log_that_stops_says_where_and_why() {
     )));
 }
 
+fn skipping(bytes: &[u8], name: &str) -> (String, String, bool) {
+    let file = scratch(name);
+    fs::write(&file, bytes).unwrap();
+    let Output {
+        status,
+        stdout,
+        stderr,
+    } = program("balancer")
+        .arg(file)
+        .arg("--skip")
+        .output()
+        .unwrap();
+    let [said, warned] = [stdout, stderr].map(|bytes| String::from_utf8(bytes).unwrap());
+    (said, warned, status.success())
+}
+
+/// Where the batches of a log start, with its end.
+fn places(bytes: &[u8]) -> Vec<usize> {
+    let mut log = Log::new(bytes);
+    let mut places = vec![0];
+    while log.next().is_some() {
+        places.push(log.place());
+    }
+    places
+}
+
+/// Of cookies 100 to 199 are lost those that are neither moved, each fourth, nor withdrawn, each
+/// tenth: 70 of the 315 that are pinned in the whole log.
+#[test]
+fn skipping_goes_on_after_one_damaged_batch() {
+    let file = scratch("skipped.log");
+    write_log(&file, 350);
+    let mut bytes = fs::read(&file).unwrap();
+    let places = places(&bytes);
+    bytes[places[1] + 100] ^= 1;
+    let (said, warned, success) = skipping(&bytes, "skipped.log");
+    assert!(
+        success && said.contains("batches passed over 1\n"),
+        "{said}"
+    );
+    assert!(said.contains("cookies pinned 245\n"), "{said}");
+    let length = places[2] - places[1];
+    let expected = format!(
+        "{length} bytes are passed over at {}: the checksum differs (number 4)\n",
+        places[1]
+    );
+    assert_eq!(warned, expected);
+}
+
+#[test]
+fn skipping_stops_where_the_length_is_damaged() {
+    let file = scratch("lost.log");
+    write_log(&file, 350);
+    let whole = fs::read(&file).unwrap();
+    let places = places(&whole);
+    let mut bytes = whole.clone();
+    bytes[places[1] + 11] ^= 1;
+    let (said, _, success) = skipping(&bytes, "lost.log");
+    assert!(
+        !success && said.contains("batches passed over 1\n"),
+        "{said}"
+    );
+    let mut bytes = whole.clone();
+    bytes[places[1] + 8] ^= 0x40;
+    let (said, warned, success) = skipping(&bytes, "lost.log");
+    assert!(
+        !success && said.contains(&format!("stop at {}: ", places[1])),
+        "{said}"
+    );
+    assert_eq!(warned, "");
+}
+
+/// The length that is damaged leads to an older batch, as one inside a value may be.
+#[test]
+fn skipping_stops_at_a_batch_out_of_order() {
+    let file = scratch("older.log");
+    write_log(&file, 350);
+    let whole = fs::read(&file).unwrap();
+    let places = places(&whole);
+    let mut bytes = whole[..places[2]].to_vec();
+    bytes[places[1] + 100] ^= 1;
+    bytes.extend(&whole[..places[1]]);
+    let (said, _, success) = skipping(&bytes, "older.log");
+    assert!(
+        !success && said.contains("stop at a batch out of order"),
+        "{said}"
+    );
+}
+
 /// A cookie is moved in a transaction, then by another producer, and then the transaction is
 /// committed.
 #[test]

@@ -99,14 +99,17 @@ const RECORDS: [NewRecord; 2] = [
         offset_delta: 300,
         key: Some(b"key"),
         value: Some(b"value"),
-        headers: &[("zone", b"norden")],
+        headers: &[("zone", Some(b"norden"))],
     },
     NewRecord {
         timestamp_delta: 5_000_000_000,
         offset_delta: 40_000,
         key: Some(b"cookie2"),
         value: Some(b"server-7"),
-        headers: &[("größer!", b"0123456789"), ("trace-label", b"ABCDEFGHIJKL")],
+        headers: &[
+            ("größer!", Some(b"0123456789")),
+            ("trace-label", Some(b"ABCDEFGHIJKL")),
+        ],
     },
 ];
 
@@ -129,7 +132,7 @@ fn hold_to_known(batch: &Batch, way: &Way) {
         for (header, &(key, value)) in record.headers().zip(known.headers) {
             assert_eq!(header.key(), key);
             assert_eq!(header.key_bytes(), key.as_bytes());
-            assert_eq!(header.value(), value);
+            assert_eq!(Some(header.value()), value);
         }
     }
 }

@@ -2,10 +2,12 @@
 
 mod common;
 
+use std::collections::HashMap;
+
 use common::{batch_with_body, marker, one_record, repaired};
 use oddrafisk::{
-    check, crc32c, is_canonical, record_time, Batch, BatchBuilder, Fields, Kind, Log, LogError,
-    Marker, NewRecord, ReadError, Reader, Refusal, TimestampType,
+    check, crc32c, framed, is_canonical, record_time, Batch, BatchBuilder, Fields, Kind, Log,
+    LogError, Marker, NewRecord, ReadError, Reader, Refusal, TimestampType,
 };
 
 /// Two batches, base 0 without records and base 7 with the one record "A", as document 01 lists
@@ -200,6 +202,165 @@ fn keys_and_values_outlive_batches() {
     assert!(std::ptr::eq(values[0], &bytes[128..129]));
 }
 
+/// A batch of one record, with this key and value.
+fn pinning(base_offset: i64, key: &[u8], value: &[u8]) -> Vec<u8> {
+    let fields = Fields {
+        base_offset,
+        ..Fields::default()
+    };
+    let mut builder = BatchBuilder::new(fields);
+    builder.push(0, Some(key), Some(value), &[]).unwrap();
+    builder.to_vec().unwrap()
+}
+
+#[test]
+fn keys_and_values_outlive_reads_by_one_reader() {
+    let first = pinning(0, b"cookie-1", b"server-3");
+    let second = pinning(1, b"cookie-2", b"server-4");
+    let third = pinning(2, b"cookie-1", b"server-5");
+    let mut latest: HashMap<&[u8], &[u8]> = HashMap::new();
+    let mut reader = Reader::new();
+    for bytes in [&first, &second, &third] {
+        let batch = reader.read(bytes).unwrap();
+        for record in batch.records() {
+            latest.insert(record.key().unwrap(), record.value().unwrap());
+        }
+    }
+    drop(reader);
+    assert_eq!(latest.len(), 2);
+    assert_eq!(latest[b"cookie-1".as_slice()], b"server-5");
+    assert_eq!(latest[b"cookie-2".as_slice()], b"server-4");
+}
+
+#[test]
+fn batches_may_be_kept_while_their_reader_goes_on() {
+    let (first, second) = (pinning(7, b"a", b"1"), pinning(9, b"b", b"2"));
+    let mut reader = Reader::new();
+    let kept = reader.read(&first).unwrap().into_owned();
+    let next = reader.read(&second).unwrap();
+    let shown = |batch: &Batch| batch.records().next().unwrap().value().map(<[u8]>::to_vec);
+    assert_eq!(
+        (kept.fields().base_offset, shown(&kept)),
+        (7, Some(b"1".to_vec()))
+    );
+    assert_eq!(
+        (next.fields().base_offset, shown(&next)),
+        (9, Some(b"2".to_vec()))
+    );
+}
+
+#[test]
+fn batches_go_to_other_threads() {
+    let bytes = [pinning(0, b"a", b"1"), pinning(1, b"b", b"2")].concat();
+    let batches: Vec<_> = Log::new(&bytes).map(Result::unwrap).collect();
+    let keys = std::thread::scope(|scope| {
+        let reading = batches.iter().map(|batch| {
+            scope.spawn(|| {
+                batch
+                    .records()
+                    .map(|r| r.key().unwrap())
+                    .collect::<Vec<_>>()
+            })
+        });
+        let reading: Vec<_> = reading.collect();
+        reading
+            .into_iter()
+            .flat_map(|thread| thread.join().unwrap())
+            .collect::<Vec<_>>()
+    });
+    assert_eq!(keys, [b"a", b"b"]);
+    let reader = std::thread::spawn(Reader::new).join().unwrap();
+    assert_eq!(format!("{reader:?}"), "Reader { .. }");
+}
+
+/// By document 01's number 1: 12 bytes tell the length, 17 the magic byte.
+#[test]
+fn length_is_told_by_17_bytes() {
+    for bytes in [one_record(), marker(1), batch_with_body(0, 0, &[])] {
+        for count in 0..=bytes.len() {
+            let expected = match count {
+                0..12 => Err(ReadError::MoreBytes { needed: 12 }),
+                12..17 => Err(ReadError::MoreBytes { needed: 17 }),
+                _ => Ok(bytes.len()),
+            };
+            assert_eq!(framed(&bytes[..count]), expected, "{count} bytes");
+        }
+    }
+}
+
+#[test]
+fn length_is_told_of_what_is_refused_but_not_of_what_has_none() {
+    for (refusal, number, bytes) in refused() {
+        let expected = match number {
+            2 | 3 => Err(ReadError::Refused(refusal)),
+            _ => Ok(bytes.len()),
+        };
+        assert_eq!(framed(&bytes), expected, "{refusal:?}");
+    }
+    let with_length = |length: i32| {
+        let mut bytes = one_record();
+        bytes[8..12].copy_from_slice(&length.to_be_bytes());
+        framed(&bytes)
+    };
+    assert_eq!(with_length(9), Ok(21));
+    assert_eq!(with_length(i32::MAX), Ok(2_147_483_659));
+    assert_eq!(with_length(-1), Err(Refusal::LengthTooSmall.into()));
+}
+
+/// The middle one of three is damaged, and has a batch in its value: it is not taken for one of the
+/// log's.
+#[test]
+fn log_goes_on_after_damage_by_the_length() {
+    let inner = pinning(1 << 40, b"inner", b"5");
+    let parts = [
+        pinning(0, b"a", b"1"),
+        pinning(1, b"b", &inner),
+        pinning(2, b"c", b"3"),
+    ];
+    let (second, third) = (parts[0].len(), parts[0].len() + parts[1].len());
+    let mut bytes = parts.concat();
+    bytes[second + 30] ^= 1;
+    let mut log = Log::new(&bytes);
+    assert_eq!(log.next().unwrap().unwrap().fields().base_offset, 0);
+    let error = LogError {
+        place: second,
+        reason: Refusal::ChecksumDiffers.into(),
+    };
+    assert_eq!(log.next().unwrap().unwrap_err(), error);
+    assert!(log.next().is_none());
+    assert_eq!(log.pass_over(), Ok(parts[1].len()));
+    assert_eq!(log.place(), third);
+    assert_eq!(log.next().unwrap().unwrap().fields().base_offset, 2);
+    assert!(log.next().is_none());
+}
+
+#[test]
+fn nothing_is_passed_over_without_a_length() {
+    let whole = pinning(0, b"a", b"1");
+    let stuck = |bytes: &[u8], reason: ReadError| {
+        let mut log = Log::new(bytes);
+        assert_eq!(
+            log.next().unwrap().unwrap_err(),
+            LogError { place: 0, reason }
+        );
+        assert_eq!(log.pass_over(), Err(LogError { place: 0, reason }));
+        assert_eq!(log.place(), 0);
+        assert!(log.next().is_none());
+    };
+    let needed = whole.len();
+    stuck(&whole[..needed - 1], ReadError::MoreBytes { needed });
+    let mut bytes = whole.clone();
+    bytes[16] = 1;
+    stuck(&bytes, Refusal::UnknownMagic.into());
+    let end = LogError {
+        place: needed,
+        reason: ReadError::MoreBytes { needed: 12 },
+    };
+    let mut log = Log::new(&whole);
+    assert!(log.next().unwrap().is_ok());
+    assert_eq!(log.pass_over(), Err(end));
+}
+
 #[test]
 fn reader_serves_batches_of_any_size() {
     let mut reader = Reader::new();
@@ -210,7 +371,7 @@ fn reader_serves_batches_of_any_size() {
             builder.record(NewRecord {
                 offset_delta: i,
                 value: Some(value.as_bytes()),
-                headers: &[("number", value.as_bytes()), ("", b"")],
+                headers: &[("number", Some(value.as_bytes())), ("", Some(b""))],
                 ..NewRecord::default()
             });
         }
@@ -230,7 +391,7 @@ fn reader_serves_batches_of_any_size() {
 #[test]
 fn headers_have_keys_as_text_and_as_bytes() {
     let record = NewRecord {
-        headers: &[("zöne", b"north")],
+        headers: &[("zöne", Some(b"north"))],
         ..NewRecord::default()
     };
     let bytes = BatchBuilder::default().record(record).to_vec().unwrap();

@@ -4,8 +4,8 @@ mod common;
 
 use common::{batch_with_body, marker, one_record};
 use oddrafisk::{
-    is_canonical, Batch, BatchBuilder, Fields, Kind, Log, Marker, NewRecord, TimestampType,
-    WriteRefusal,
+    is_canonical, Batch, BatchBuilder, Fields, Kind, Log, Marker, NewRecord, PushRefusal,
+    TimestampType, WriteRefusal,
 };
 
 /// Every field 0, as the batches of `common` have it.
@@ -116,7 +116,7 @@ fn records_read_back() {
         NewRecord {
             key: Some(b"cookie"),
             value: Some(b""),
-            headers: &[("zone", b"north"), ("", b"")],
+            headers: &[("zone", Some(b"north")), ("", Some(b""))],
             ..NewRecord::default()
         },
         NewRecord {
@@ -124,7 +124,7 @@ fn records_read_back() {
             timestamp_delta: i64::MAX,
             key: Some(b""),
             value: Some(&[0xFF; 300]),
-            headers: &[("zone", b"south")],
+            headers: &[("zone", Some(b"south"))],
         },
     ];
     let mut builder = BatchBuilder::new(EXTREME);
@@ -140,7 +140,7 @@ fn records_read_back() {
         assert_eq!(read.timestamp_delta(), written.timestamp_delta);
         assert_eq!(read.offset_delta(), written.offset_delta);
         assert_eq!((read.key(), read.value()), (written.key, written.value));
-        let headers: Vec<_> = read.headers().map(|h| (h.key(), h.value())).collect();
+        let headers: Vec<_> = read.headers().map(|h| (h.key(), Some(h.value()))).collect();
         assert_eq!(headers, written.headers);
     }
 }
@@ -172,26 +172,246 @@ fn short_output_stays_untouched() {
     assert_eq!(output, [0xAA; 60]);
 }
 
+/// What a batch says of the times and offsets of its records: first and greatest time, last offset
+/// delta, and of each record offset and time.
+fn counted(bytes: &[u8]) -> (i64, i64, i32, Vec<(i64, i64)>) {
+    let batch = Batch::read(bytes).unwrap();
+    let records = batch.records();
+    let shown = records.map(|record| (record.offset().unwrap(), record.time().unwrap()));
+    let fields = batch.fields();
+    (
+        fields.first_timestamp,
+        fields.max_timestamp,
+        fields.last_offset_delta,
+        shown.collect(),
+    )
+}
+
 #[test]
-fn cleared_builder_keeps_its_fields() {
-    let mut builder = BatchBuilder::new(EXTREME);
-    builder.record(NewRecord {
-        headers: &[("zone", b"north")],
-        ..NewRecord::default()
+fn pushed_records_are_counted() {
+    let mut builder = BatchBuilder::new(Fields {
+        base_offset: 70,
+        last_offset_delta: 9,
+        first_timestamp: 8000,
+        max_timestamp: 9000,
+        ..Fields::default()
     });
-    builder.clear();
-    assert_eq!(builder.measure(), Ok(61));
-    builder.record(NewRecord {
-        headers: &[("zone", b"south")],
-        ..NewRecord::default()
-    });
+    for time in [1000, 1050, 980, 1020] {
+        builder.push(time, None, None, &[]).unwrap();
+    }
+    assert_eq!(builder.len(), 4);
+    let records = vec![(70, 1000), (71, 1050), (72, 980), (73, 1020)];
+    assert_eq!(
+        counted(&builder.to_vec().unwrap()),
+        (1000, 1050, 3, records)
+    );
+    assert_eq!(builder.fields.last_offset(), Some(73));
+}
+
+#[test]
+fn pushed_times_may_lie_before_1970() {
+    let mut builder = BatchBuilder::default();
+    builder.push(-500, None, None, &[]).unwrap();
+    builder.push(-700, None, None, &[]).unwrap();
+    let records = vec![(0, -500), (1, -700)];
+    assert_eq!(
+        counted(&builder.to_vec().unwrap()),
+        (-500, -500, 1, records)
+    );
+}
+
+#[test]
+fn pushed_keys_values_and_headers_read_back() {
+    let headers: &[(&str, Option<&[u8]>)] = &[("zone", Some(b"north")), ("", Some(b""))];
+    let mut builder = BatchBuilder::default();
+    builder.push(1, Some(b"cookie"), None, headers).unwrap();
+    builder.push(2, None, Some(b"server"), &[]).unwrap();
     let bytes = builder.to_vec().unwrap();
+    assert!(is_canonical(&bytes));
     let batch = Batch::read(&bytes).unwrap();
-    assert_eq!(batch.fields().base_offset, EXTREME.base_offset);
-    let values: Vec<_> = batch
-        .records()
-        .flat_map(|r| r.headers())
-        .map(|h| h.value())
+    let shown: Vec<_> = batch.records().map(|r| (r.key(), r.value())).collect();
+    assert_eq!(
+        shown,
+        [
+            (Some(b"cookie".as_slice()), None),
+            (None, Some(b"server".as_slice()))
+        ]
+    );
+    let counts: Vec<_> = batch.records().map(|r| r.headers().len()).collect();
+    assert_eq!(counts, [2, 0]);
+    let first = batch.records().next().unwrap();
+    let read: Vec<_> = first
+        .headers()
+        .map(|h| (h.key(), Some(h.value())))
         .collect();
-    assert_eq!(values, [b"south"]);
+    assert_eq!(read, headers);
+}
+
+#[test]
+fn append_times_are_the_broker_s() {
+    let mut builder = BatchBuilder::new(Fields {
+        max_timestamp: 5000,
+        timestamp_type: TimestampType::LogAppendTime,
+        ..Fields::default()
+    });
+    builder.push(1000, None, None, &[]).unwrap();
+    builder.push(9000, None, None, &[]).unwrap();
+    let fields = &builder.fields;
+    assert_eq!((fields.first_timestamp, fields.max_timestamp), (1000, 5000));
+}
+
+/// After each refusal the batch is written as it was before.
+#[test]
+fn what_cannot_come_next_changes_nothing() {
+    let last = |fields: Fields, offset_delta| {
+        let mut builder = BatchBuilder::new(fields);
+        builder.record(NewRecord {
+            offset_delta,
+            ..NewRecord::default()
+        });
+        builder
+    };
+    let end = Fields {
+        base_offset: i64::MAX,
+        ..Fields::default()
+    };
+    let early = Fields {
+        first_timestamp: -2,
+        ..Fields::default()
+    };
+    let nothing: &[(&str, Option<&[u8]>)] = &[];
+    let null = &[("zone", None)];
+    let cases = [
+        (
+            last(Fields::default(), i32::MAX),
+            0,
+            nothing,
+            PushRefusal::Offset,
+        ),
+        (last(end, 0), 0, nothing, PushRefusal::Offset),
+        (last(early, 0), i64::MAX, nothing, PushRefusal::Timestamp),
+        (
+            last(Fields::default(), 0),
+            0,
+            null,
+            PushRefusal::NullHeaderValue,
+        ),
+        (
+            BatchBuilder::default(),
+            0,
+            null,
+            PushRefusal::NullHeaderValue,
+        ),
+    ];
+    for (mut builder, time, headers, refusal) in cases {
+        let before = builder.to_vec().unwrap();
+        let found = builder.push(time, Some(b"k"), None, headers).unwrap_err();
+        assert_eq!(found, refusal);
+        assert_eq!(builder.to_vec().unwrap(), before, "{refusal}");
+    }
+    let mut builder = last(early, 0);
+    builder.push(i64::MAX - 2, None, None, &[]).unwrap();
+    assert_eq!(builder.fields.max_timestamp, i64::MAX - 2);
+}
+
+#[test]
+fn null_header_value_in_the_raw_form_is_refused_in_writing() {
+    let mut builder = BatchBuilder::default();
+    builder.record(NewRecord {
+        headers: &[("zone", None)],
+        ..NewRecord::default()
+    });
+    let mut output = [0xAA; 100];
+    assert_eq!(builder.measure(), Err(WriteRefusal::WrongRow));
+    let refusal = builder.write(&mut output).unwrap_err();
+    assert_eq!((refusal, refusal.number()), (WriteRefusal::WrongRow, 21));
+    assert_eq!(output, [0xAA; 100]);
+}
+
+#[test]
+fn cleared_builder_starts_afresh() {
+    let fields = Fields {
+        base_offset: 70,
+        producer_id: 4012,
+        producer_epoch: 3,
+        base_sequence: 5,
+        is_transactional: true,
+        ..Fields::default()
+    };
+    let mut builder = BatchBuilder::new(fields);
+    builder
+        .push(9000, None, None, &[("zone", Some(b"north"))])
+        .unwrap();
+    builder.push(9500, None, None, &[]).unwrap();
+    builder.clear();
+    assert_eq!(
+        (builder.fields, builder.len(), builder.is_empty()),
+        (fields, 0, true)
+    );
+    builder
+        .push(1000, Some(b"k"), None, &[("zone", Some(b"south"))])
+        .unwrap();
+    let mut alone = BatchBuilder::new(fields);
+    alone
+        .push(1000, Some(b"k"), None, &[("zone", Some(b"south"))])
+        .unwrap();
+    assert_eq!(builder.to_vec().unwrap(), alone.to_vec().unwrap());
+}
+
+#[test]
+fn next_batch_follows_in_the_log() {
+    let mut builder = BatchBuilder::new(Fields {
+        base_offset: 70,
+        base_sequence: i32::MAX - 1,
+        ..Fields::default()
+    });
+    let mut log = Vec::new();
+    for times in [[1000, 1010], [1020, 1030]] {
+        for time in times {
+            builder.push(time, None, None, &[]).unwrap();
+        }
+        builder.append_to(&mut log).unwrap();
+        builder.next_batch().unwrap();
+    }
+    let batches: Vec<_> = Log::new(&log).map(Result::unwrap).collect();
+    let offsets: Vec<_> = batches
+        .iter()
+        .map(|b| (b.fields().base_offset, b.fields().last_offset()))
+        .collect();
+    assert_eq!(offsets, [(70, Some(71)), (72, Some(73))]);
+    let sequences: Vec<_> = batches.iter().map(|b| b.fields().base_sequence).collect();
+    assert_eq!(sequences, [i32::MAX - 1, 0]);
+    let fields = Fields {
+        base_offset: 74,
+        base_sequence: 2,
+        ..Fields::default()
+    };
+    assert_eq!(builder.next_batch().unwrap().fields, fields);
+}
+
+#[test]
+fn no_batch_follows_the_last_offset() {
+    let mut builder = BatchBuilder::new(Fields {
+        base_offset: i64::MAX,
+        ..Fields::default()
+    });
+    builder.push(1000, Some(b"k"), None, &[]).unwrap();
+    let before = builder.to_vec().unwrap();
+    assert_eq!(builder.next_batch().unwrap_err(), PushRefusal::Offset);
+    assert_eq!(builder.to_vec().unwrap(), before);
+    assert!(PushRefusal::Offset.to_string().contains("64 bits"));
+}
+
+#[test]
+fn markers_are_written_as_batches_are() {
+    for (kind, bytes) in [(Marker::Abort, marker(0)), (Marker::Commit, marker(1))] {
+        assert_eq!(kind.measure(), 65);
+        assert_eq!(kind.to_vec(&ZERO), bytes);
+        let mut output = [0xAA; 68];
+        assert_eq!(kind.write(&ZERO, &mut output), Ok(65));
+        assert_eq!(output.to_vec(), [bytes, vec![0xAA; 3]].concat());
+        let mut short = [0xAA; 64];
+        let refusal = kind.write(&ZERO, &mut short).unwrap_err();
+        assert_eq!((refusal, short), (WriteRefusal::ShortOutput, [0xAA; 64]));
+    }
 }

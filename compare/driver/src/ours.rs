@@ -1,12 +1,10 @@
 //! Oddrafisk by its C interface, bindings/c/oddrafisk.h, with all that it is lent in guarded memory.
 
+use oddrafisk_sys as sys;
+
 use crate::lent::{about_to_read, Guarded};
 use crate::model::writing::Asked;
 use crate::model::Entries;
-
-#[path = "../../../bindings/rust/src/c.rs"]
-#[allow(dead_code)]
-mod c;
 
 /// Both tables, a row after the other.
 #[derive(Clone, Debug, Default, PartialEq)]
@@ -55,11 +53,8 @@ impl Library {
     pub fn check(&mut self, bytes: &[u8]) -> (u32, Entries) {
         about_to_read(bytes);
         let bytes = self.lent.bytes.read_only(bytes);
-        let answer = self.answer.writable(&[UNANSWERED; 16]);
-        // SAFETY: the pointers are those of slices, each with its own length.
-        let number =
-            unsafe { c::oddrafisk_check(bytes.as_ptr(), bytes.len(), answer.as_mut_ptr()) };
-        (number, entries(answer))
+        let answer = sixteen(self.answer.writable(&[UNANSWERED; 16]));
+        (sys::check(bytes, answer), *answer)
     }
 
     /// The tables are lent as they are, and come back as the library leaves them.
@@ -68,94 +63,52 @@ impl Library {
         let bytes = self.lent.bytes.read_only(bytes);
         let records = self.lent.records.writable(&tables.records);
         let headers = self.lent.headers.writable(&tables.headers);
-        let answer = self.answer.writable(&[UNANSWERED; 16]);
-        // SAFETY: as above, and each is memory of its own.
-        let number = unsafe {
-            c::oddrafisk_read(
-                bytes.as_ptr(),
-                bytes.len(),
-                records.as_mut_ptr(),
-                records.len(),
-                headers.as_mut_ptr(),
-                headers.len(),
-                answer.as_mut_ptr(),
-            )
-        };
+        let answer = sixteen(self.answer.writable(&[UNANSWERED; 16]));
+        let number = sys::read(bytes, records, headers, answer);
         tables.records.copy_from_slice(records);
         tables.headers.copy_from_slice(headers);
-        (number, entries(answer))
+        (number, *answer)
     }
 
     pub fn measure(&mut self, asked: &Asked) -> (u32, i64) {
         let Asked { batch, codec, records, headers, source } = self.lent.read_only(asked);
-        let answer = self.answer.writable(&[UNANSWERED]);
-        // SAFETY: as above.
-        let number = unsafe {
-            c::oddrafisk_measure(
-                batch.as_ptr(),
-                codec,
-                records.as_ptr(),
-                records.len(),
-                headers.as_ptr(),
-                headers.len(),
-                source.as_ptr(),
-                source.len(),
-                answer.as_mut_ptr(),
-            )
-        };
-        (number, answer[0])
+        let answer = one(self.answer.writable(&[UNANSWERED]));
+        (sys::measure(batch, codec, records, headers, source, answer), answer[0])
     }
 
     /// The output is lent as it is, and comes back as the library leaves it.
     pub fn write(&mut self, asked: &Asked, output: &mut [u8]) -> (u32, i64) {
         let Asked { batch, codec, records, headers, source } = self.lent.read_only(asked);
         let lent = self.output.writable(output);
-        let answer = self.answer.writable(&[UNANSWERED]);
-        // SAFETY: as above.
-        let number = unsafe {
-            c::oddrafisk_write(
-                batch.as_ptr(),
-                codec,
-                records.as_ptr(),
-                records.len(),
-                headers.as_ptr(),
-                headers.len(),
-                source.as_ptr(),
-                source.len(),
-                lent.as_mut_ptr(),
-                lent.len(),
-                answer.as_mut_ptr(),
-            )
-        };
+        let answer = one(self.answer.writable(&[UNANSWERED]));
+        let number = sys::write(batch, codec, records, headers, source, lent, answer);
         output.copy_from_slice(lent);
         (number, answer[0])
     }
 
     pub fn is_canonical(&mut self, bytes: &[u8]) -> u32 {
         about_to_read(bytes);
-        let bytes = self.lent.bytes.read_only(bytes);
-        // SAFETY: as above.
-        unsafe { c::oddrafisk_is_canonical(bytes.as_ptr(), bytes.len()) }
+        sys::is_canonical(self.lent.bytes.read_only(bytes))
     }
 
     pub fn crc32c(&mut self, bytes: &[u8]) -> u32 {
         about_to_read(bytes);
-        let bytes = self.lent.bytes.read_only(bytes);
-        // SAFETY: as above.
-        unsafe { c::oddrafisk_crc32c(bytes.as_ptr(), bytes.len()) }
+        sys::crc32c(self.lent.bytes.read_only(bytes))
     }
 
     /// The time of a record, or none.
     pub fn record_time(&mut self, [kind, first, greatest, delta]: [i64; 4]) -> Option<i64> {
-        let answer = self.answer.writable(&[UNANSWERED]);
-        // SAFETY: as above.
-        let told =
-            unsafe { c::oddrafisk_record_time(kind, first, greatest, delta, answer.as_mut_ptr()) };
+        let answer = one(self.answer.writable(&[UNANSWERED]));
+        let told = sys::record_time(kind, first, greatest, delta, answer);
         assert!(told < 2 && (told == 1 || answer[0] == 0), "a time that is none is told");
         (told == 1).then_some(answer[0])
     }
 }
 
-fn entries(answer: &[i64]) -> Entries {
-    answer.try_into().expect("sixteen were lent")
+fn sixteen(lent: &mut [i64]) -> &mut Entries {
+    lent.try_into().expect("sixteen are lent")
+}
+
+fn one(lent: &mut [i64]) -> &mut [i64; 1] {
+    lent.try_into().expect("one is lent")
 }

@@ -11,7 +11,7 @@ use Rattle.records.specs.Rows.{Tables}
 use Rattle.writing.specs.Answers as Writing
 use Rattle.batches.specs.Answers.{Answer}
 use Rattle.batches.specs.Promises.{Canonical}
-use Rattle.oddrafisk.specs.Promises.{Outcome, Says, CheckPromise, ReadPromise, Sizes, MeasurePromise, WritePromise, CanonicalPromise, RecordTimePromise, Crc32cPromise}
+use Rattle.oddrafisk.specs.Promises.{Outcome, Says, CheckPromise, ReadPromise, Sizes, MeasurePromise, WritePromise, CanonicalPromise, RecordTimePromise, Crc32cPromise, VersionPromise}
 
 -- ---- what is said
 
@@ -58,3 +58,6 @@ single-record-time type first max delta = single-value _
 
 pub single-crc32c : (s : List ℕ) → Single (Crc32cPromise s)
 single-crc32c s = single-value _
+
+pub single-version : Single VersionPromise
+single-version = single-value _

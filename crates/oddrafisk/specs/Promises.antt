@@ -2,7 +2,7 @@
 -- of every parameter. Each cites what the layer below promises: the same judgement, the same bytes given. All else is
 -- lent to be read: no function here can change it. That lent bytes are bytes, and fields that entries ask for of their
 -- width, is promised too, so that no law about a function has to ask it.
-use Prim.Native.Nat.{ℕ}
+use Prim.Native.Nat.{ℕ, _+_, _*_}
 use mathlib.Core.Path.{_≡_}
 use mathlib.Core.Bool.{true, false}
 use mathlib.Core.Option.{Option, none, some}
@@ -127,3 +127,17 @@ RecordTimePromise type first max delta o = o ≡ timeSaid (timeFor type first ma
 -- oddrafisk_crc32c, on bytes s
 abbrev pub Crc32cPromise : List ℕ → ℕ → Type 0
 Crc32cPromise s r = Checksum.Crc32cPromise s r
+
+-- ---- the version
+
+-- a version as one number, three digits for each of the last two parts: 1.2.3 is 1002003
+abbrev pub numbered : (major minor patch : ℕ) → ℕ
+numbered major minor patch = major * 1000000 + minor * 1000 + patch
+
+-- this library's version, 0.2.0
+abbrev pub version : ℕ
+version = numbered 0 2 0
+
+-- oddrafisk_version
+abbrev pub VersionPromise : ℕ → Type 0
+VersionPromise r = r ≡ version

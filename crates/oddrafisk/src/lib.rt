@@ -18,7 +18,7 @@ use writing::Written;
 ghost use mathlib.Core.Path.{_≡_};
 ghost use Rattle.records.specs.Rows.{tables};
 ghost use Rattle.writing.specs.Answers.{viewWritten, measured};
-ghost use Rattle.oddrafisk.specs.Promises.{CheckPromise, ReadPromise, entriesGiven, MeasurePromise, WritePromise, CanonicalPromise, RecordTimePromise, Crc32cPromise};
+ghost use Rattle.oddrafisk.specs.Promises.{CheckPromise, ReadPromise, entriesGiven, MeasurePromise, WritePromise, CanonicalPromise, RecordTimePromise, Crc32cPromise, VersionPromise};
 ghost use Rattle.oddrafisk.specs.Words.{WritesFor};
 
 // What the bytes begin with, by themselves.
@@ -123,6 +123,15 @@ pub extern "C" fn oddrafisk_crc32c(bytes: &[u8]) -> u32
     ensures { λ r. ⌜ Crc32cPromise (now (bytes .entry)) r ⌝ }
 {
     crc32c(bytes)
+}
+
+// The version of this library, by which a caller finds that an archive is not its header's: major, minor and patch as
+// one number.
+#[no_mangle]
+pub extern "C" fn oddrafisk_version() -> u32
+    ensures { λ r. ⌜ VersionPromise r ⌝ }
+{
+    2000
 }
 
 fn measure_asked(

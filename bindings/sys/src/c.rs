@@ -7,9 +7,9 @@ extern "C" {
         bytes: *const u8,
         bytes_count: usize,
         records: *mut i64,
-        records_count: usize,
+        record_numbers: usize,
         headers: *mut i64,
-        headers_count: usize,
+        header_numbers: usize,
         answer: *mut i64,
     ) -> u32;
 
@@ -17,9 +17,9 @@ extern "C" {
         batch: *const i64,
         codec: i64,
         records: *const i64,
-        records_count: usize,
+        record_numbers: usize,
         headers: *const i64,
-        headers_count: usize,
+        header_numbers: usize,
         source: *const u8,
         source_count: usize,
         answer: *mut i64,
@@ -29,9 +29,9 @@ extern "C" {
         batch: *const i64,
         codec: i64,
         records: *const i64,
-        records_count: usize,
+        record_numbers: usize,
         headers: *const i64,
-        headers_count: usize,
+        header_numbers: usize,
         source: *const u8,
         source_count: usize,
         output: *mut u8,
@@ -50,4 +50,6 @@ extern "C" {
     ) -> u32;
 
     pub fn oddrafisk_crc32c(bytes: *const u8, bytes_count: usize) -> u32;
+
+    pub fn oddrafisk_version() -> u32;
 }
