@@ -1,0 +1,218 @@
+//! Going through the batches of a file, of which no more than one is in memory.
+
+use std::fs::File;
+use std::io::{self, Read, Seek};
+use std::os::fd::AsFd;
+
+use oddrafisk::{Kind, Marker, ReadError};
+
+use crate::arguments::Work;
+use crate::console::{Console, Status};
+use crate::name::Name;
+use crate::progress::Progress;
+use crate::window::{Window, PIECE};
+
+/// With so many bytes of a batch its length is settled.
+const FRAME: usize = 17;
+
+/// Why a file was not gone through to its end.
+pub enum Trouble {
+    /// The batch at the place was not read.
+    Stopped(ReadError),
+    /// The file cannot be read.
+    Unreadable(io::Error),
+    /// Standard output cannot be written.
+    Unwritable(io::Error),
+}
+
+impl From<ReadError> for Trouble {
+    fn from(reason: ReadError) -> Self {
+        Trouble::Stopped(reason)
+    }
+}
+
+/// Verbs write and leave the reading to [`Log`], so that an error of theirs is one of writing.
+impl From<io::Error> for Trouble {
+    fn from(error: io::Error) -> Self {
+        Trouble::Unwritable(error)
+    }
+}
+
+/// Goes through the files of the command line. What is wrong with one is said, and the next is
+/// tried; where standard output cannot be written, nothing more can be done.
+pub fn each(
+    work: &Work,
+    console: &mut Console,
+    mut visit: impl FnMut(&mut Log, &mut Console) -> Result<(), Trouble>,
+) -> io::Result<()> {
+    for name in &work.files {
+        match Log::open(name, work.verb.streams) {
+            Ok(mut log) => {
+                let ended = visit(&mut log, console);
+                settle(ended, &log, console)?;
+            }
+            Err(error) => console.fault(Status::Unreadable, name, error)?,
+        }
+    }
+    Ok(())
+}
+
+fn settle(ended: Result<(), Trouble>, log: &Log, console: &mut Console) -> io::Result<()> {
+    match ended {
+        Ok(()) => Ok(()),
+        Err(Trouble::Unwritable(error)) => Err(error),
+        Err(Trouble::Unreadable(error)) => console.fault(Status::Unreadable, log.name, error),
+        Err(Trouble::Stopped(reason)) => {
+            let (place, words, number) = (log.place(), log.words(reason), reason.number());
+            let words = format_args!("stopped at {place}: {words} (number {number})");
+            console.fault(status_of(reason), log.name, words)
+        }
+    }
+}
+
+pub fn status_of(reason: ReadError) -> Status {
+    match reason {
+        ReadError::MoreBytes { .. } => Status::Torn,
+        ReadError::Refused(_) => Status::Refused,
+    }
+}
+
+pub fn name_of(kind: Kind) -> &'static str {
+    match kind {
+        Kind::Records => "records",
+        Kind::Marker(Marker::Abort) => "abort",
+        Kind::Marker(Marker::Commit) => "commit",
+    }
+}
+
+/// A file that is gone through, batch after batch.
+pub struct Log<'n> {
+    pub name: &'n Name,
+    window: Window<Source>,
+}
+
+impl<'n> Log<'n> {
+    /// Opens the file and reads its beginning: a folder can be opened, and is no log.
+    fn open(name: &'n Name, streams: bool) -> io::Result<Self> {
+        let mut log = Log {
+            name,
+            window: Window::new(Source::open(name, streams)?),
+        };
+        log.bring()?;
+        Ok(log)
+    }
+
+    /// Where the next batch starts; after a stop, the batch that was not read.
+    pub fn place(&self) -> u64 {
+        self.window.place()
+    }
+
+    /// Hands over the place of each batch in turn, and bytes that begin with it, and is told how
+    /// many of them it has. It ends with the file, or with the first trouble.
+    pub fn walk(
+        &mut self,
+        judge: impl FnMut(u64, &[u8]) -> Result<usize, Trouble>,
+    ) -> Result<(), Trouble> {
+        let ended = self.go_on(judge);
+        self.window.source_mut().progress.end();
+        ended
+    }
+
+    fn go_on(
+        &mut self,
+        mut judge: impl FnMut(u64, &[u8]) -> Result<usize, Trouble>,
+    ) -> Result<(), Trouble> {
+        while !self.window.bytes().is_empty() {
+            let bytes = judge(self.window.place(), self.window.bytes())?;
+            self.window.pass(bytes);
+            self.bring().map_err(Trouble::Unreadable)?;
+        }
+        Ok(())
+    }
+
+    /// Reads on until the batch at the place is there in full, as far as the file has it, so that
+    /// it is judged once. A length that goes past the file's end is not worth the memory.
+    fn bring(&mut self) -> io::Result<()> {
+        self.window.reach(FRAME)?;
+        if let Ok(length) = oddrafisk::framed(self.window.bytes()) {
+            if length <= PIECE || length as u64 <= self.left().unwrap_or(u64::MAX) {
+                self.window.reach(length)?;
+            }
+        }
+        Ok(())
+    }
+
+    /// The batch at the place, where it is there in full.
+    pub fn batch(&self) -> Option<&[u8]> {
+        let bytes = self.window.bytes();
+        bytes.get(..oddrafisk::framed(bytes).ok()?)
+    }
+
+    /// What is at hand around the place, and where that begins, with so many bytes from the place
+    /// on, as far as the file has them and they can be read.
+    pub fn around(&mut self, needed: usize) -> (u64, &[u8]) {
+        let _ = self.window.reach(needed);
+        self.window.around()
+    }
+
+    /// How many bytes the file has from the place on, where it says so and has not shown more.
+    fn left(&self) -> Option<u64> {
+        let left = self.window.source().length()?.checked_sub(self.place())?;
+        (self.window.bytes().len() as u64 <= left).then_some(left)
+    }
+
+    /// Why the batch at the place was not read.
+    pub fn words(&self, reason: ReadError) -> String {
+        match reason {
+            ReadError::MoreBytes { needed } => {
+                // A file that is written may have grown meanwhile.
+                let left = self.left().filter(|&left| left < needed as u64);
+                let left = left.unwrap_or(self.window.bytes().len() as u64);
+                format!("the log is torn: {left} bytes are there, {needed} are needed")
+            }
+            ReadError::Refused(refusal) => refusal.words().to_string(),
+        }
+    }
+}
+
+/// A file, or standard input, from where it stands.
+struct Source {
+    file: File,
+    origin: u64,
+    read: u64,
+    progress: Progress,
+}
+
+impl Source {
+    /// Standard input is taken as a file, since `io::Stdin` takes one that is not open for reading
+    /// for an empty one.
+    fn open(name: &Name, streams: bool) -> io::Result<Self> {
+        let mut file = if name.is_standard_input() {
+            File::from(io::stdin().as_fd().try_clone_to_owned()?)
+        } else {
+            File::open(name.path())?
+        };
+        let mut source = Source {
+            origin: file.stream_position().unwrap_or(0),
+            file,
+            read: 0,
+            progress: Progress::new(name, streams),
+        };
+        source.progress.length = source.length();
+        Ok(source)
+    }
+
+    /// How many bytes the file says that it has by now. A pipe says that it has none.
+    fn length(&self) -> Option<u64> {
+        self.file.metadata().ok()?.len().checked_sub(self.origin)
+    }
+}
+
+impl Read for Source {
+    fn read(&mut self, buffer: &mut [u8]) -> io::Result<usize> {
+        let bytes = self.file.read(buffer)?;
+        self.read += bytes as u64;
+        self.progress.at(self.read);
+        Ok(bytes)
+    }
+}

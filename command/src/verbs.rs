@@ -1,0 +1,30 @@
+//! The verbs of the program.
+
+use std::io;
+
+use crate::arguments::Work;
+use crate::console::Console;
+use crate::{dump, list, verify};
+
+/// All of them, in the order of the help.
+pub const VERBS: [Verb; 3] = [list::VERB, dump::VERB, verify::VERB];
+
+/// What the program can do with files.
+pub struct Verb {
+    pub name: &'static str,
+    /// A line for the program's help.
+    pub about: &'static str,
+    /// Its own help, after the lines on usage and options.
+    pub help: &'static str,
+    pub options: &'static [Flag],
+    /// Whether it writes while it reads, and not only at the end of a file.
+    pub streams: bool,
+    /// Does it. An error is one of writing to standard output.
+    pub run: fn(&Work, &mut Console) -> io::Result<()>,
+}
+
+/// An option of a verb.
+pub struct Flag {
+    pub name: &'static str,
+    pub about: &'static str,
+}

@@ -1,0 +1,158 @@
+//! `oddrafisk verify`: whether a log is all right, and else its first fault.
+
+use std::io::{self, Write};
+use std::ops::Range;
+
+use oddrafisk::{ReadError, Refusal};
+
+use crate::arguments::Work;
+use crate::console::{Console, Status};
+use crate::hex::Excerpt;
+use crate::log::{self, Log, Trouble};
+use crate::verbs::Verb;
+
+pub const VERB: Verb = Verb {
+    name: "verify",
+    about: "whether a log is all right, and else its first fault",
+    help: "\
+A file that is all right has one line, with how many batches, records and bytes it has. Of any other
+the first fault is shown: its number, the place of its batch and what it is in words; what stands
+before it; of a batch that is there in full the checksum that it has and the one that its bytes
+have; and the bytes around it, with those at fault marked. Nothing after the first fault is looked
+at.
+
+Markers as brokers write them count as a fault: only the bare form of four bytes is read so far
+(request C-16).
+
+examples:
+  oddrafisk verify *.log
+  oddrafisk verify -- -odd-name.log
+  ssh broker cat 00000000000000000000.log | oddrafisk verify -
+",
+    options: &[],
+    streams: false,
+    run,
+};
+
+/// The fixed part of a batch, which ends with the count of records.
+const FIXED: usize = 61;
+const CHECKSUM: Range<usize> = 17..21;
+/// So many bytes from the place on are shown: the fixed part, the rest of its last line and a line
+/// more.
+const SHOWN: usize = FIXED + 31;
+/// The attributes' second byte has the bit that says whether a batch is a marker.
+const ATTRIBUTES_LOW: usize = 22;
+const CONTROL: u8 = 0x20;
+/// What is marked where only the batch is known: its base offset.
+const FIRST_BYTES: Range<u64> = 0..8;
+
+/// What has been found to be right.
+#[derive(Default)]
+struct Sums {
+    batches: u64,
+    records: u64,
+}
+
+fn run(work: &Work, console: &mut Console) -> io::Result<()> {
+    log::each(work, console, verify)
+}
+
+fn verify(log: &mut Log, console: &mut Console) -> Result<(), Trouble> {
+    let mut sums = Sums::default();
+    let ended = log.walk(|_, bytes| {
+        let outline = oddrafisk::check(bytes)?;
+        sums.batches += 1;
+        sums.records += outline.records as u64;
+        Ok(outline.bytes)
+    });
+    match ended {
+        Ok(()) => all_right(log, &sums, console)?,
+        Err(Trouble::Stopped(reason)) => {
+            console.worsen(log::status_of(reason));
+            fault(log, reason, &sums, console)?;
+        }
+        Err(trouble) => return Err(trouble),
+    }
+    Ok(())
+}
+
+fn all_right(log: &Log, sums: &Sums, console: &mut Console) -> io::Result<()> {
+    writeln!(
+        console,
+        "{}: all right, {} batches, {} records, {} bytes",
+        log.name,
+        sums.batches,
+        sums.records,
+        log.place()
+    )
+}
+
+fn fault(log: &mut Log, reason: ReadError, sums: &Sums, console: &mut Console) -> io::Result<()> {
+    let (place, number, words) = (log.place(), reason.number(), log.words(reason));
+    writeln!(console, "{}: stop {number} at {place}: {words}", log.name)?;
+    let Sums { batches, records } = sums;
+    writeln!(console, "  {batches} batches, {records} records before it")?;
+    if log::status_of(reason) == Status::Torn {
+        writeln!(
+            console,
+            "  the file ends inside the batch, or the length of the batch is damaged"
+        )?;
+    }
+    let marked = at_fault(reason);
+    if let Some(batch) = log.batch() {
+        write_checksums(batch, console)?;
+        if marked.is_none() {
+            let part = part_of(batch);
+            writeln!(
+                console,
+                "  the reader names the batch and not the byte: the fault is in its {part}"
+            )?;
+        }
+    }
+    let marked = marked.unwrap_or(FIRST_BYTES);
+    let (first, bytes) = log.around(SHOWN);
+    let excerpt = Excerpt {
+        first,
+        bytes,
+        marked: place + marked.start..place + marked.end,
+        colour: console.colour,
+    };
+    excerpt.write(place, console)
+}
+
+fn write_checksums(batch: &[u8], console: &mut Console) -> io::Result<()> {
+    let stored = batch[CHECKSUM]
+        .iter()
+        .fold(0, |sum, &byte| sum << 8 | u32::from(byte));
+    let computed = oddrafisk::crc32c(&batch[CHECKSUM.end..]);
+    writeln!(
+        console,
+        "  checksum stored 0x{stored:08X}, computed 0x{computed:08X}"
+    )
+}
+
+/// The bytes of a batch that are at fault, where the number tells.
+fn at_fault(reason: ReadError) -> Option<Range<u64>> {
+    let ReadError::Refused(refusal) = reason else {
+        return None;
+    };
+    match refusal {
+        Refusal::LengthTooSmall => Some(8..12),
+        Refusal::UnknownMagic => Some(16..17),
+        Refusal::ChecksumDiffers => Some(17..21),
+        Refusal::UnknownCodec | Refusal::Compressed => Some(21..23),
+        Refusal::WrongCount => Some(57..61),
+        _ => None,
+    }
+}
+
+/// The part of a batch that is read after its checksum has been found right.
+fn part_of(batch: &[u8]) -> &'static str {
+    if batch.len() < FIXED {
+        "fixed fields"
+    } else if batch[ATTRIBUTES_LOW] & CONTROL != 0 {
+        "marker"
+    } else {
+        "records"
+    }
+}
