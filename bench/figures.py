@@ -16,6 +16,9 @@ BUILDS = {'found': 'instruction found at run time', 'inlined': 'instruction buil
 # Which operation of which case has to be how many times as fast as the Rust.
 BARS = {('read', '100 small records'): 3, ('read', 'four values of 1 MiB'): 1, ('write', '100 small records'): 3}
 
+# What users call, what it is measured by, and how many times as long it may take.
+USERS = {'read a log': ('safe crate', 'C functions', 1.15), 'verify a log': ('program', 'check', 1.5)}
+
 
 def fields(path):
     return [line.split('\t') for line in path.read_text('utf-8').splitlines()]
@@ -48,6 +51,11 @@ class Figures:
         sides = [self.values(part='time', operation=operation, case=case, build=build, side=side)
                  for side in (RUST, OURS)]
         return [rust / ours for rust, ours in zip(*sides)]
+
+    def times_as_long(self, operation):
+        """What users call by what it is measured by, in each pass."""
+        sides = [self.values(part='users', operation=operation, side=side) for side in USERS[operation][:2]]
+        return [theirs / plain for theirs, plain in zip(*sides)]
 
     def ratio(self, operation, case, build):
         """None where the Rust has no such operation."""

@@ -9,10 +9,11 @@ Without figures of the Rust, DOCUMENT and PICTURE are left as they are.
 
 import pathlib
 import re
+import statistics
 import sys
 
 import picture
-from figures import BARS, BUILDS, GROWING, OPERATIONS, OURS, RUST, Figures
+from figures import BARS, BUILDS, GROWING, OPERATIONS, OURS, RUST, USERS, Figures
 
 NOTHING = '–'
 
@@ -62,6 +63,17 @@ def bars(figures):
             met = met and ratio >= least
         rows.append([*row, 'met' if met else 'MISSED'])
     return table(head, rows)
+
+
+def users(figures):
+    rows = []
+    for operation, (theirs, plain, most) in USERS.items():
+        times = [shown_time(figures.median(part='users', operation=operation, side=side)) for side in (plain, theirs)]
+        ratios = figures.times_as_long(operation)
+        ratio = statistics.median(ratios)
+        shown = f'{shown_ratio(ratio)} ({shown_ratio(min(ratios))} to {shown_ratio(max(ratios))})'
+        rows.append([f'{operation}: {theirs} by {plain}', *times, shown, most, 'met' if ratio <= most else 'MISSED'])
+    return table(['', 'measured by', 'users call', 'times as long, lowest to highest pass', 'at most', ''], rows)
 
 
 def compared(figures, operation):
@@ -133,6 +145,7 @@ def slower(figures):
 PARTS = {
     'machine': machine,
     'bars': bars,
+    'users': users,
     'read': lambda figures: compared(figures, 'read'),
     'write': lambda figures: compared(figures, 'write'),
     'canonical': lambda figures: compared(figures, 'is_canonical'),

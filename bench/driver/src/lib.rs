@@ -6,12 +6,14 @@ pub mod oddrafisk;
 pub mod side;
 mod sliced;
 mod timing;
+mod users;
 pub mod value;
 
 use std::hint::black_box;
+use std::path::Path;
 use std::time::Duration;
 
-use cases::{Case, CHECKED, MAKERS};
+use cases::{CHECKED, MAKERS};
 use side::{repeat, Operation, Runner, Side};
 use timing::{in_turns, Plan, Spread};
 
@@ -24,6 +26,7 @@ agree                                     that the sides give the same, case by 
 time MICROSECONDS ROUNDS                  each operation of each case; a turn lasts MICROSECONDS
 checksum MICROSECONDS ROUNDS              the checksums alone
 growth MICROSECONDS ROUNDS LARGEST        the first side, from 1 KiB to LARGEST bytes
+users ROUNDS PROGRAM FILE                 the safe crate, and PROGRAM on FILE, which is written
 cells                                     what `repeat` can be told, with the case's name and bytes
 repeat SIDE OPERATION CASE TIMES          one operation of one case by one side, and nothing else";
 
@@ -36,6 +39,7 @@ pub fn run(sides: &[&dyn Side]) {
         ["time", turn, rounds] => time(sides, plan(turn, rounds)),
         ["checksum", turn, rounds] => checksum(sides, plan(turn, rounds)),
         ["growth", turn, rounds, largest] => growth(sides[0], plan(turn, rounds), number(largest)),
+        ["users", rounds, program, file] => users(number(rounds), program, Path::new(file)),
         ["cells"] => cells(sides),
         ["repeat", side, operation, case, times] => {
             again(sides, side, operation, number(case), number(times))
@@ -85,7 +89,7 @@ fn time(sides: &[&dyn Side], plan: Plan) {
                 .iter()
                 .filter_map(|side| Some((side.name(), side.runner(operation, &case)?)))
                 .collect();
-            print_times("time", operation.name(), &case, case.bytes.len(), runners, plan);
+            print_times("time", operation.name(), case.name, case.bytes.len(), runners, plan);
         }
     }
 }
@@ -102,7 +106,7 @@ fn checksum(sides: &[&dyn Side], plan: Plan) {
             ("slicing by 16", repeat(move || by_16.crc32c(black_box(bytes)))),
         ];
         runners.extend(sides.iter().map(|side| (side.name(), side.checksum(bytes))));
-        print_times("checksum", "checksum", case, bytes.len(), runners, plan);
+        print_times("checksum", "checksum", case.name, bytes.len(), runners, plan);
     }
 }
 
@@ -115,12 +119,21 @@ fn growth(side: &dyn Side, plan: Plan, largest: usize) {
             for operation in GROWING {
                 let runner = side.runner(operation, &case).expect("the case is accepted");
                 let runners = vec![(side.name(), runner)];
-                print_times("growth", operation.name(), &case, bytes.len(), runners, plan);
+                print_times("growth", operation.name(), case.name, bytes.len(), runners, plan);
             }
             let mut output = vec![0; bytes.len()];
             let copy = repeat(move || black_box(&mut output).copy_from_slice(black_box(bytes)));
-            print_times("growth", "copy", &case, bytes.len(), vec![("copy", copy)], plan);
+            print_times("growth", "copy", case.name, bytes.len(), vec![("copy", copy)], plan);
         }
+    }
+}
+
+/// One log in two ways, twice. A turn is the whole log, which takes longer than these milliseconds.
+fn users(rounds: usize, program: &str, file: &Path) {
+    let log = users::pinnings();
+    let plan = Plan { turn: Duration::from_millis(10), rounds };
+    for pair in [users::reading(&log), users::verifying(&log, program, file)] {
+        print_times("users", pair.operation, "a million pinnings", log.len(), pair.runners, plan);
     }
 }
 
@@ -146,7 +159,7 @@ fn again(sides: &[&dyn Side], side: &str, operation: &str, case: usize, times: u
 fn print_times(
     part: &str,
     operation: &str,
-    case: &Case,
+    case: &str,
     bytes: usize,
     runners: Vec<(&str, Runner)>,
     plan: Plan,
@@ -154,7 +167,7 @@ fn print_times(
     let (names, mut runners): (Vec<_>, Vec<_>) = runners.into_iter().unzip();
     for (side, spread) in names.iter().zip(in_turns(&mut runners, plan)) {
         let Spread { median, low, high } = spread;
-        let cell = format!("{part}\t{operation}\t{}\t{bytes}\t{side}", case.name);
+        let cell = format!("{part}\t{operation}\t{case}\t{bytes}\t{side}");
         println!("{cell}\tns\t{median:.2}\t{low:.2}\t{high:.2}");
     }
 }

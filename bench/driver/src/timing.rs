@@ -57,22 +57,42 @@ fn spent(runner: &mut Runner, times: u64) -> Duration {
     processor_time() - start
 }
 
-/// What this program has used of the processor: that others take it away meanwhile does not count.
+/// What this program and those that it has run have used of the processor: that others take it away meanwhile does not
+/// count.
 fn processor_time() -> Duration {
-    #[repr(C)]
-    struct Timespec {
-        seconds: i64,
-        nanoseconds: i64,
-    }
-    extern "C" {
-        fn clock_gettime(clock: i32, time: *mut Timespec) -> i32;
-    }
     const CLOCK_PROCESS_CPUTIME_ID: i32 = 2;
-    let mut time = Timespec { seconds: 0, nanoseconds: 0 };
-    // SAFETY: the pointer is to a value of the form that 64-bit Linux has for it.
-    let failed = unsafe { clock_gettime(CLOCK_PROCESS_CPUTIME_ID, &mut time) };
+    const RUSAGE_CHILDREN: i32 = -1;
+    let mut time = Time { seconds: 0, parts: 0 };
+    let mut used = Used { time: [Time { seconds: 0, parts: 0 }; 2], rest: [0; 14] };
+    // SAFETY: the pointers are to values of the form that 64-bit Linux has for them.
+    let failed = unsafe {
+        clock_gettime(CLOCK_PROCESS_CPUTIME_ID, &mut time) | getrusage(RUSAGE_CHILDREN, &mut used)
+    };
     assert_eq!(failed, 0, "no clock of processor time");
-    Duration::new(time.seconds as u64, time.nanoseconds as u32)
+    let own = Duration::new(time.seconds as u64, time.parts as u32);
+    used.time.iter().fold(own, |sum, time| {
+        sum + Duration::from_secs(time.seconds as u64) + Duration::from_micros(time.parts as u64)
+    })
+}
+
+/// Seconds, and nanoseconds or microseconds.
+#[repr(C)]
+#[derive(Clone, Copy)]
+struct Time {
+    seconds: i64,
+    parts: i64,
+}
+
+/// What was used of the processor by programs and by the system for them, and what is not looked at.
+#[repr(C)]
+struct Used {
+    time: [Time; 2],
+    rest: [i64; 14],
+}
+
+extern "C" {
+    fn clock_gettime(clock: i32, time: *mut Time) -> i32;
+    fn getrusage(who: i32, used: *mut Used) -> i32;
 }
 
 fn spread(mut taken: Vec<f64>) -> Spread {
