@@ -86,6 +86,12 @@ fn parse_work(
             verb.name
         ));
     }
+    if 1 < files.iter().filter(|file| file.is_standard_input()).count() {
+        return Err(format!(
+            "{0} can read standard input once, and - is there twice; see oddrafisk {0} --help",
+            verb.name
+        ));
+    }
     Ok(Request::Work(Work { verb, files, flags }))
 }
 

@@ -23,9 +23,10 @@ headers as \"key\"=value, with a tab between two of them. Bytes that are UTF-8 a
 as JSON has it, others 0x and their digits, and null is null. An offset or a time that leaves 64
 bits is -. With several files a line `# file FILE` comes before the records of each.
 
-With --json a line is an object with \"offset\", \"time\", \"key\", \"value\" and \"headers\", a
-list of objects with \"key\" and \"value\"; with several files it has \"file\" too. Bytes that are
-UTF-8 are a string, others {\"hex\":\"..\"}; null, and a number that leaves 64 bits, is null.
+With --json a line is an object with \"offset\", \"time\", \"key\", \"value\" and \"headers\", a list of
+objects with \"key\" and \"value\"; with several files it has \"file\" too. Bytes that are UTF-8 are a
+string, others {\"hex\":\"..\"}; null, and a number that leaves 64 bits, is null. A program that reads
+numbers as doubles loses digits of those above 2^53.
 
 With --fields a line comes before the records of each batch: `# place PLACE: ` and each field with
 its value, or an object \"batch\" with \"place\" and each field. A marker, which ends a transaction,

@@ -1,8 +1,9 @@
 //! Going through the batches of a file, of which no more than one is in memory.
 
-use std::fs::File;
+use std::fs::{self, File};
 use std::io::{self, Read, Seek};
 use std::os::fd::AsFd;
+use std::os::unix::fs::{FileTypeExt, MetadataExt};
 
 use oddrafisk::{Kind, Marker, ReadError};
 
@@ -184,11 +185,9 @@ struct Source {
 }
 
 impl Source {
-    /// Standard input is taken as a file, since `io::Stdin` takes one that is not open for reading
-    /// for an empty one.
     fn open(name: &Name, streams: bool) -> io::Result<Self> {
         let mut file = if name.is_standard_input() {
-            File::from(io::stdin().as_fd().try_clone_to_owned()?)
+            standard_input()?
         } else {
             File::open(name.path())?
         };
@@ -206,6 +205,29 @@ impl Source {
     fn length(&self) -> Option<u64> {
         self.file.metadata().ok()?.len().checked_sub(self.origin)
     }
+}
+
+/// Standard input as a file, since `io::Stdin` takes one that is not open for reading for an empty
+/// one.
+fn standard_input() -> io::Result<File> {
+    let file = File::from(io::stdin().as_fd().try_clone_to_owned()?);
+    if was_closed(&file)? {
+        return Err(io::Error::other("it is closed"));
+    }
+    Ok(file)
+}
+
+/// Where standard input is closed, Rust opens the null device in its place before `main`, for
+/// reading and writing, as nobody does who means an empty log.
+fn was_closed(file: &File) -> io::Result<bool> {
+    const NULL_DEVICE: u64 = 0x103;
+    let metadata = file.metadata()?;
+    if !metadata.file_type().is_char_device() || metadata.rdev() != NULL_DEVICE {
+        return Ok(false);
+    }
+    let said = fs::read_to_string("/proc/self/fdinfo/0").unwrap_or_default();
+    let flags = said.lines().find_map(|line| line.strip_prefix("flags:"));
+    Ok(flags.is_some_and(|flags| flags.ends_with('2')))
 }
 
 impl Read for Source {

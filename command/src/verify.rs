@@ -1,5 +1,6 @@
 //! `oddrafisk verify`: whether a log is all right, and else its first fault.
 
+use std::fmt;
 use std::io::{self, Write};
 use std::ops::Range;
 
@@ -18,8 +19,11 @@ pub const VERB: Verb = Verb {
 A file that is all right has one line, with how many batches, records and bytes it has. Of any other
 the first fault is shown: its number, the place of its batch and what it is in words; what stands
 before it; of a batch that is there in full the checksum that it has and the one that its bytes
-have; and the bytes around it, with those at fault marked. Nothing after the first fault is looked
-at.
+have; and the bytes around it, with those at fault marked, or the batch's first eight where the
+number does not tell. Nothing after the first fault is looked at.
+
+Base offset and leader epoch lie outside a batch's checksum, and whether offsets run on from batch
+to batch is not looked at: `oddrafisk list` shows them.
 
 Markers as brokers write them count as a fault: only the bare form of four bytes is read so far
 (request C-16).
@@ -43,6 +47,7 @@ const SHOWN: usize = FIXED + 31;
 /// The attributes' second byte has the bit that says whether a batch is a marker.
 const ATTRIBUTES_LOW: usize = 22;
 const CONTROL: u8 = 0x20;
+const LENGTH: Range<u64> = 8..12;
 /// What is marked where only the batch is known: its base offset.
 const FIRST_BYTES: Range<u64> = 0..8;
 
@@ -51,6 +56,17 @@ const FIRST_BYTES: Range<u64> = 0..8;
 struct Sums {
     batches: u64,
     records: u64,
+}
+
+impl fmt::Display for Sums {
+    fn fmt(&self, f: &mut fmt::Formatter<'_>) -> fmt::Result {
+        let Sums { batches, records } = *self;
+        let [es, s] = [
+            if batches == 1 { "" } else { "es" },
+            if records == 1 { "" } else { "s" },
+        ];
+        write!(f, "{batches} batch{es}, {records} record{s}")
+    }
 }
 
 fn run(work: &Work, console: &mut Console) -> io::Result<()> {
@@ -77,21 +93,14 @@ fn verify(log: &mut Log, console: &mut Console) -> Result<(), Trouble> {
 }
 
 fn all_right(log: &Log, sums: &Sums, console: &mut Console) -> io::Result<()> {
-    writeln!(
-        console,
-        "{}: all right, {} batches, {} records, {} bytes",
-        log.name,
-        sums.batches,
-        sums.records,
-        log.place()
-    )
+    let (name, bytes) = (log.name, log.place());
+    writeln!(console, "{name}: all right, {sums}, {bytes} bytes")
 }
 
 fn fault(log: &mut Log, reason: ReadError, sums: &Sums, console: &mut Console) -> io::Result<()> {
     let (place, number, words) = (log.place(), reason.number(), log.words(reason));
     writeln!(console, "{}: stop {number} at {place}: {words}", log.name)?;
-    let Sums { batches, records } = sums;
-    writeln!(console, "  {batches} batches, {records} records before it")?;
+    writeln!(console, "  {sums} before it")?;
     if log::status_of(reason) == Status::Torn {
         writeln!(
             console,
@@ -133,11 +142,13 @@ fn write_checksums(batch: &[u8], console: &mut Console) -> io::Result<()> {
 
 /// The bytes of a batch that are at fault, where the number tells.
 fn at_fault(reason: ReadError) -> Option<Range<u64>> {
-    let ReadError::Refused(refusal) = reason else {
-        return None;
+    let refusal = match reason {
+        ReadError::Refused(refusal) => refusal,
+        // The length is there, and names more bytes than there are.
+        ReadError::MoreBytes { needed } => return (12 < needed).then_some(LENGTH),
     };
     match refusal {
-        Refusal::LengthTooSmall => Some(8..12),
+        Refusal::LengthTooSmall => Some(LENGTH),
         Refusal::UnknownMagic => Some(16..17),
         Refusal::ChecksumDiffers => Some(17..21),
         Refusal::UnknownCodec | Refusal::Compressed => Some(21..23),

@@ -12,7 +12,8 @@
 //! With `--skip` it goes on after a batch that is refused, by the batch's own length, and says
 //! which bytes it has passed over. What stood there is lost, and where the length itself is damaged
 //! the next place need be no batch's beginning: so it stops where what it finds there is refused as
-//! well, or does not come after what it has read.
+//! well, or does not come after what it has read. A marker may be among what is lost, so that what
+//! stands in a transaction which is open there is dropped, and is said to be lost.
 
 use std::collections::{BTreeMap, HashMap};
 use std::path::Path;
@@ -41,6 +42,7 @@ struct Pinnings<'a> {
     without_cookie: u64,
     aborted: usize,
     passed_over: u64,
+    lost: usize,
 }
 
 impl<'a> Pinnings<'a> {
@@ -84,6 +86,17 @@ impl<'a> Pinnings<'a> {
         }
     }
 
+    /// A batch was passed over. Whether it ended one of the open transactions, and how, nobody knows
+    /// any more.
+    fn pass_over_batch(&mut self) {
+        self.passed_over += 1;
+        self.lost += self
+            .undecided
+            .drain()
+            .map(|(_, lost)| lost.len())
+            .sum::<usize>();
+    }
+
     /// A commit comes after its records, and other producers may have written in between.
     fn apply(&mut self, change: Change<'a>) {
         let latest = self.latest.entry(change.cookie).or_insert(change);
@@ -102,6 +115,7 @@ impl<'a> Pinnings<'a> {
         println!("batches {}", self.batches);
         if self.passed_over != 0 {
             println!("batches passed over {}", self.passed_over);
+            println!("records lost in open transactions {}", self.lost);
         }
         println!("records {}", self.records);
         println!("records without a cookie {}", self.without_cookie);
@@ -126,7 +140,8 @@ struct Reading<'a> {
 
 impl<'a> Reading<'a> {
     /// Whether a batch may stand here. After damage that is so only where its offsets come after
-    /// all that were read: what the damaged length leads to may be a batch inside a value.
+    /// those of the last that was read: what a damaged length leads to may be a batch inside a
+    /// value.
     fn is_next(&self, batch: &Batch<'a, '_>) -> bool {
         let follows = |last| last < batch.fields().base_offset;
         !self.passed_over || self.last_offset.is_none_or(follows)
@@ -157,7 +172,7 @@ impl<'a> Reading<'a> {
                 Ok(batch) => return Err(format!("at a batch out of order: {batch:?}")),
                 Err(error) => {
                     self.pass_over(error)?;
-                    pinnings.passed_over += 1;
+                    pinnings.pass_over_batch();
                 }
             }
             if Duration::from_secs(1) <= told.elapsed() {

@@ -77,7 +77,7 @@ pub enum Kind {
 /// ```
 #[derive(Debug, Clone, Copy, PartialEq, Eq, Hash)]
 pub struct Fields {
-    /// The offset from which those of the records count.
+    /// The offset from which those of the records count. No checksum covers it.
     pub base_offset: i64,
     /// The epoch of the partition's leader. Brokers set it, and no checksum covers it.
     pub partition_leader_epoch: i32,

@@ -132,8 +132,8 @@ impl fmt::Debug for Log<'_> {
 pub struct LogError {
     /// Where the batch that was not read starts: all before it was read.
     pub place: usize,
-    /// Why it was not read. [`MoreBytes`](ReadError::MoreBytes) is a log that is cut off, and
-    /// counts from `place`.
+    /// Why it was not read. [`MoreBytes`](ReadError::MoreBytes) is a log that is cut off, or a
+    /// batch whose length is damaged, and counts from `place`.
     pub reason: ReadError,
 }
 

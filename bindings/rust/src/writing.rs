@@ -83,7 +83,7 @@ impl BatchBuilder {
         }
     }
 
-    /// Adds a record, at the next offset and with this time, in milliseconds since 1970.
+    /// Adds a record, at the offset after the last and with this time, in milliseconds since 1970.
     ///
     /// The batch keeps its fields right: `first_timestamp` is the time of the first record,
     /// `last_offset_delta` counts the records, and under create time `max_timestamp` is the
@@ -168,9 +168,10 @@ impl BatchBuilder {
         self
     }
 
-    /// Takes the records out, and `first_timestamp`, `last_offset_delta` and `max_timestamp` with
-    /// them, which are again as in a batch without records. The other fields stay, and the memory
-    /// is kept for the next batch.
+    /// Takes the records out, and what follows from them: `first_timestamp`, `last_offset_delta`
+    /// and under create time `max_timestamp` are again as in a new batch. The other fields stay,
+    /// and the memory is kept for the next batch. Who adds records by their deltas sets
+    /// `first_timestamp` again.
     ///
     /// ```
     /// use oddrafisk::BatchBuilder;
@@ -188,13 +189,14 @@ impl BatchBuilder {
         let empty = Fields::default();
         self.fields.first_timestamp = empty.first_timestamp;
         self.fields.last_offset_delta = empty.last_offset_delta;
-        self.fields.max_timestamp = empty.max_timestamp;
+        if self.fields.timestamp_type == TimestampType::CreateTime {
+            self.fields.max_timestamp = empty.max_timestamp;
+        }
     }
 
     /// Begins the batch that follows this one in a log: [`clear`](BatchBuilder::clear)s it, after
-    /// `base_offset` was moved past its last offset, and `base_sequence`, where there is one, by
-    /// the number of its records (0 comes after the greatest). A batch without records has no
-    /// offset to be moved past.
+    /// `base_offset` was moved past its last offset, and `base_sequence`, where there is one, by as
+    /// much (0 comes after the greatest). A batch without records has its offsets too.
     ///
     /// It is refused where the offset leaves 64 bits, and then changes nothing.
     ///
@@ -207,13 +209,12 @@ impl BatchBuilder {
     /// # Ok::<(), oddrafisk::PushRefusal>(())
     /// ```
     pub fn next_batch(&mut self) -> Result<&mut Self, PushRefusal> {
-        if !self.records.is_empty() {
-            let last = self.fields.last_offset().ok_or(PushRefusal::Offset)?;
-            self.fields.base_offset = last.checked_add(1).ok_or(PushRefusal::Offset)?;
-            if 0 <= self.fields.base_sequence {
-                let next = self.fields.base_sequence as usize + self.records.len();
-                self.fields.base_sequence = (next % (1 << 31)) as i32;
-            }
+        let last = self.fields.last_offset().ok_or(PushRefusal::Offset)?;
+        self.fields.base_offset = last.checked_add(1).ok_or(PushRefusal::Offset)?;
+        if 0 <= self.fields.base_sequence {
+            let taken = i64::from(self.fields.last_offset_delta) + 1;
+            let next = i64::from(self.fields.base_sequence) + taken;
+            self.fields.base_sequence = next.rem_euclid(1 << 31) as i32;
         }
         self.clear();
         Ok(self)
@@ -249,7 +250,8 @@ impl BatchBuilder {
     }
 
     /// Writes the batch to the start of the output and returns how many bytes it has. A refusal
-    /// changes nothing.
+    /// changes nothing. The records stay: [`next_batch`](BatchBuilder::next_batch) or
+    /// [`clear`](BatchBuilder::clear) begins another batch.
     ///
     /// Nobody else may use the output meanwhile, as another process could that maps the same file:
     /// [what a caller owes](crate#what-a-caller-owes).
@@ -265,7 +267,8 @@ impl BatchBuilder {
     }
 
     /// Writes the batch after what the log has and returns how many bytes it has. A refusal changes
-    /// nothing.
+    /// nothing. The records stay: [`next_batch`](BatchBuilder::next_batch) or
+    /// [`clear`](BatchBuilder::clear) begins another batch.
     ///
     /// ```
     /// let mut log = Vec::new();
@@ -277,7 +280,7 @@ impl BatchBuilder {
         self.asked().append_to(log)
     }
 
-    /// The batch as bytes of its own.
+    /// The batch as bytes of its own. The records stay.
     ///
     /// ```
     /// assert_eq!(oddrafisk::BatchBuilder::default().to_vec()?.len(), 61);
@@ -296,17 +299,19 @@ impl BatchBuilder {
         }
     }
 
-    /// The offset after that of the last record, counted from the base offset.
+    /// The offset after the last, which no record lies past, counted from the base offset.
     fn next_offset_delta(&self) -> Result<i32, PushRefusal> {
         let delta = match self.records.last() {
-            None => 0,
-            Some(row) => row[sys::RECORD_OFFSET_DELTA] + 1,
+            None => Some(0),
+            Some(_) => self.fields.last_offset_delta.checked_add(1),
         };
-        let offset = self.fields.base_offset.checked_add(delta);
-        match (i32::try_from(delta), offset) {
-            (Ok(delta), Some(_)) => Ok(delta),
-            _ => Err(PushRefusal::Offset),
-        }
+        let fits = |delta: &i32| {
+            self.fields
+                .base_offset
+                .checked_add((*delta).into())
+                .is_some()
+        };
+        delta.filter(fits).ok_or(PushRefusal::Offset)
     }
 
     /// The fields of a batch whose first record has this time, as far as they count.

@@ -224,6 +224,36 @@ fn skipping_stops_where_the_length_is_damaged() {
     assert_eq!(warned, "");
 }
 
+/// Two transactions of one producer, of which the first is aborted. Where the marker is lost that
+/// aborts it, the second's must not commit it.
+#[test]
+fn skipping_drops_what_is_undecided() {
+    let at = |base_offset| Fields {
+        base_offset,
+        producer_id: 7,
+        is_transactional: true,
+        ..Fields::default()
+    };
+    let pinned = |base_offset, cookie: &[u8], server: &[u8]| {
+        let mut builder = BatchBuilder::new(at(base_offset));
+        builder.push(0, Some(cookie), Some(server), &[]).unwrap();
+        builder.to_vec().unwrap()
+    };
+    let mut bytes = pinned(0, b"cookie-1", b"aborted");
+    let marker = bytes.len();
+    Marker::Abort.append_to(&at(1), &mut bytes);
+    bytes.extend(pinned(2, b"cookie-2", b"committed"));
+    Marker::Commit.append_to(&at(3), &mut bytes);
+    let (said, _, success) = skipping(&bytes, "transactions.log");
+    assert!(success && said.contains("records aborted 1\n"), "{said}");
+    bytes[marker + 30] ^= 1;
+    let (said, _, success) = skipping(&bytes, "transactions.log");
+    let lost = "batches passed over 1\nrecords lost in open transactions 1\n";
+    assert!(success && said.contains(lost), "{said}");
+    let end = "cookies pinned 1\ncookies withdrawn 0\ncommitted 1\nend at ";
+    assert!(said.contains(end), "{said}");
+}
+
 /// The length that is damaged leads to an older batch, as one inside a value may be.
 #[test]
 fn skipping_stops_at_a_batch_out_of_order() {

@@ -2,7 +2,7 @@
 
 mod common;
 
-use common::{batch_with_body, marker, one_record};
+use common::{batch_with_body, marker, one_record, repaired};
 use oddrafisk::{
     is_canonical, Batch, BatchBuilder, Fields, Kind, Log, Marker, NewRecord, PushRefusal,
     TimestampType, WriteRefusal,
@@ -208,6 +208,46 @@ fn pushed_records_are_counted() {
     assert_eq!(builder.fields.last_offset(), Some(73));
 }
 
+/// The fields at document 01's places, and both records byte by byte.
+#[test]
+fn pushed_records_have_the_bytes_of_the_table() {
+    let body = [
+        [0x0C, 0, 0, 0, 1, 1, 0],
+        [0x0C, 0, 0x64, 2, 1, 1, 0],
+        [0x0C, 0, 0x27, 4, 1, 1, 0],
+    ];
+    let mut bytes = batch_with_body(0, 3, body.as_flattened());
+    bytes[..8].copy_from_slice(&70_i64.to_be_bytes());
+    bytes[23..27].copy_from_slice(&2_i32.to_be_bytes());
+    bytes[27..35].copy_from_slice(&1000_i64.to_be_bytes());
+    bytes[35..43].copy_from_slice(&1050_i64.to_be_bytes());
+    let mut builder = BatchBuilder::new(Fields {
+        base_offset: 70,
+        ..ZERO
+    });
+    for time in [1000, 1050, 980] {
+        builder.push(time, None, None, &[]).unwrap();
+    }
+    assert_eq!(builder.to_vec().unwrap(), repaired(bytes));
+}
+
+/// Raw records may go back; what is pushed after them comes after all of them.
+#[test]
+fn pushed_records_come_after_raw_ones() {
+    let mut builder = BatchBuilder::default();
+    for offset_delta in [7, 3] {
+        builder.record(NewRecord {
+            offset_delta,
+            ..NewRecord::default()
+        });
+    }
+    builder.push(20, None, None, &[]).unwrap();
+    builder.push(30, None, None, &[]).unwrap();
+    let records = vec![(7, -1), (3, -1), (8, 20), (9, 30)];
+    let bytes = builder.to_vec().unwrap();
+    assert_eq!(counted(&bytes), (-1, 30, 9, records));
+}
+
 #[test]
 fn pushed_times_may_lie_before_1970() {
     let mut builder = BatchBuilder::default();
@@ -256,8 +296,13 @@ fn append_times_are_the_broker_s() {
     });
     builder.push(1000, None, None, &[]).unwrap();
     builder.push(9000, None, None, &[]).unwrap();
-    let fields = &builder.fields;
-    assert_eq!((fields.first_timestamp, fields.max_timestamp), (1000, 5000));
+    let times = |fields: &Fields| (fields.first_timestamp, fields.max_timestamp);
+    assert_eq!(times(&builder.fields), (1000, 5000));
+    assert_eq!(times(&builder.next_batch().unwrap().fields), (-1, 5000));
+    builder.push(2000, None, None, &[]).unwrap();
+    assert_eq!(times(&builder.fields), (2000, 5000));
+    builder.clear();
+    assert_eq!(times(&builder.fields), (-1, 5000));
 }
 
 /// After each refusal the batch is written as it was before.
@@ -386,7 +431,28 @@ fn next_batch_follows_in_the_log() {
         base_sequence: 2,
         ..Fields::default()
     };
-    assert_eq!(builder.next_batch().unwrap().fields, fields);
+    assert_eq!(builder.fields, fields);
+}
+
+/// Compaction takes records away and leaves the offsets.
+#[test]
+fn next_batch_follows_one_with_offsets_left_out() {
+    let mut builder = BatchBuilder::new(Fields {
+        base_offset: 20,
+        last_offset_delta: 9,
+        base_sequence: 100,
+        ..Fields::default()
+    });
+    let next = builder.next_batch().unwrap().fields;
+    assert_eq!((next.base_offset, next.base_sequence), (30, 110));
+    builder.record(NewRecord {
+        offset_delta: 4,
+        ..NewRecord::default()
+    });
+    let next = builder.next_batch().unwrap().fields;
+    assert_eq!((next.base_offset, next.base_sequence), (35, 115));
+    let next = builder.next_batch().unwrap().fields;
+    assert_eq!((next.base_offset, next.base_sequence), (36, 116));
 }
 
 #[test]

@@ -219,6 +219,7 @@ fn fixed_fields() -> Faults {
         (6, "codec 4", codec(4)),
         (7, "a count of -2", head.with_body(-2, &[])),
         (8, "a length of 9", head.with_checked(&[])),
+        (8, "a count of 1 and no record", head.with_body(1, &[])),
     ]
 }
 

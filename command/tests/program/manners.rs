@@ -156,7 +156,7 @@ fn version_is_the_package_s() {
     }
 }
 
-const WRONG: [(&[&str], &str); 13] = [
+const WRONG: [(&[&str], &str); 14] = [
     (&[], "no verb is given"),
     (&["lits", "a.log"], "there is no verb lits"),
     (&["-", "a.log"], "there is no verb -"),
@@ -181,6 +181,10 @@ const WRONG: [(&[&str], &str); 13] = [
     (
         &["verify", "--"],
         "verify needs a FILE, and - is standard input",
+    ),
+    (
+        &["verify", "-", "a.log", "-"],
+        "verify can read standard input once, and - is there twice",
     ),
 ];
 
@@ -208,6 +212,6 @@ fn options_end_at_two_dashes() {
         .current_dir(scratch("dashes"))
         .args(["verify", "--", "--json"]);
     let ended: Ended = command.output().unwrap().into();
-    let due = "--json: all right, 1 batches, 1 records, 69 bytes\n";
+    let due = "--json: all right, 1 batch, 1 record, 69 bytes\n";
     assert_eq!(ended.output, due);
 }

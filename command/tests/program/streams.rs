@@ -55,15 +55,33 @@ fn input_begins_where_it_stands() {
 #[test]
 fn input_beside_files() {
     let [(_, whole), ..] = files("beside");
-    let arguments = ["list", "-", whole.to_str().unwrap(), "-"];
+    let arguments = ["list", "-", whole.to_str().unwrap()];
     let ended = run_on(&arguments, &one_record().repeat(2));
     let ends: Vec<&str> = ended
         .output
         .lines()
         .filter(|line| line.starts_with("end "))
         .collect();
-    assert_eq!(ends, ["end at 138", "end at 69", "end at 0"]);
+    assert_eq!(ends, ["end at 138", "end at 69"]);
     assert_eq!(ended.status, 0);
+}
+
+/// A shell closes it; the null device is an empty log only where somebody has opened it to be read.
+#[test]
+fn closed_input_is_no_empty_log() {
+    for verb in VERBS {
+        let closing = |input: &str| -> Ended {
+            let words = format!("\"$0\" {verb} - {input}");
+            let mut shell = Command::new("sh");
+            shell.args(["-c", &words, env!("CARGO_BIN_EXE_oddrafisk")]);
+            shell.output().unwrap().into()
+        };
+        let ended = closing("<&-");
+        assert_eq!((ended.status, ended.output.as_str()), (3, ""));
+        assert_eq!(ended.errors, "oddrafisk: standard input: it is closed\n");
+        let ended = closing("</dev/null");
+        assert_eq!((ended.status, ended.errors.as_str()), (0, ""));
+    }
 }
 
 /// More lines than a pipe and a buffer hold.

@@ -81,7 +81,7 @@ fn empty_file_is_all_right() {
 #[test]
 fn standard_input_has_its_name() {
     let ended = run_on(&["verify", "-"], &one_record());
-    let due = "standard input: all right, 1 batches, 1 records, 69 bytes\n";
+    let due = "standard input: all right, 1 batch, 1 record, 69 bytes\n";
     assert_eq!((ended.status, ended.output.as_str()), (0, due));
 }
 
@@ -105,7 +105,7 @@ fn fault_is_shown_with_its_bytes() {
     let text: String = [a, b, c, d].map(shown).iter().collect();
     let due = format!(
         "stop 4 at 69: the checksum differs
-  1 batches, 1 records before it
+  1 batch, 1 record before it
   checksum stored 0x{stored:08X}, computed 0x{computed:08X}
   00000030: 00 00 17 00 1D 00 00 00  1F 00 00 00 01 0E 00 00  ................
   00000040: 00 01 02 41 00 00 00 00  00 00 00 00 07 00 00 00  ...A............
@@ -124,11 +124,11 @@ fn torn_tail_is_shown_with_what_is_missing() {
     let ended = verify(&bytes, "torn.log");
     let due = "\
 stop 1 at 65: the log is torn: 16 bytes are there, 17 are needed
-  1 batches, 0 records before it
+  1 batch, 0 records before it
   the file ends inside the batch, or the length of the batch is damaged
   00000030: 00 00 17 00 1D 00 00 00  1F 00 00 00 01 00 00 00  ................
   00000040: 01 00 00 00 00 00 00 00  07 00 00 00 39 00 00 00  ............9...
-               ^^ ^^ ^^ ^^ ^^ ^^ ^^  ^^
+                                        ^^ ^^ ^^ ^^
   00000050: 0B                                                .
 ";
     assert_eq!((ended.status, ended.output.as_str()), (2, due));
@@ -207,6 +207,13 @@ fn assert_lines(output: &str, bytes: &[u8], place: usize, marks: Range<usize>) {
     );
 }
 
+fn plural(count: usize) -> &'static str {
+    match count {
+        1 => "",
+        _ => "es",
+    }
+}
+
 fn assert_shown(before: &[u8], number: u32, what: &str, batch: &[u8]) {
     let bytes = [before, batch, &one_record()].concat();
     let ended = verify(&bytes, "fault.log");
@@ -218,7 +225,7 @@ fn assert_shown(before: &[u8], number: u32, what: &str, batch: &[u8]) {
     assert!(lines[0].starts_with(&start), "{what}: {output}");
     assert_eq!(
         lines[1],
-        format!("  {count} batches, 0 records before it"),
+        format!("  {count} batch{}, 0 records before it", plural(count)),
         "{what}"
     );
     let part = due_part(number, what).map(|part| {
@@ -285,7 +292,12 @@ fn torn_tails_mark_what_there_is() {
             bytes.len()
         );
         assert!(ended.output.starts_with(&due), "{what}: {}", ended.output);
-        assert_eq!(marked(&ended.output), bytes[..bytes.len().min(8)], "{what}");
+        // Its length, where that is there.
+        let marks = match bytes.len() {
+            0..12 => 0..bytes.len().min(8),
+            _ => 8..12,
+        };
+        assert_eq!(marked(&ended.output), bytes[marks], "{what}");
     }
 }
 
