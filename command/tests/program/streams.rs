@@ -1,9 +1,10 @@
 //! Standard input and output in all their states, and how much memory is taken.
 
 use std::fs::{self, File};
-use std::io::{BufRead, BufReader, Read};
+use std::io::{BufRead, BufReader, Read, Write};
 use std::path::{Path, PathBuf};
 use std::process::{ChildStdin, Command, Stdio};
+use std::thread;
 use std::time::{Duration, Instant};
 
 use crate::format::{one_record, Head};
@@ -114,11 +115,15 @@ fn closed_pipe_ends_quietly() {
     }
 }
 
-/// A pipe whose reader has gone.
+/// A pipe whose reader has gone. What another test starts at the same time has the reader's end too,
+/// until it begins to run.
 fn closed_pipe() -> ChildStdin {
     let mut reader = Command::new("true").stdin(Stdio::piped()).spawn().unwrap();
-    let pipe = reader.stdin.take().unwrap();
+    let mut pipe = reader.stdin.take().unwrap();
     reader.wait().unwrap();
+    while pipe.write(b" ").is_ok() {
+        thread::sleep(Duration::from_millis(1));
+    }
     pipe
 }
 
