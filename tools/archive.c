@@ -1,14 +1,14 @@
 /* Calls each function of liboddrafisk.a for x86-64 on a stack of its own, painted before, and prints how many bytes of
  * it were used: `NAME BYTES`, a line a function, the return address among them. Standard input is a log. Each of its
- * batches is checked and read, as a whole and cut off, with tables and without, and measured and written again. It is
- * compiled by tools/archive, without a C library: memcpy and memset are those below, and use no stack but for their
- * return address. */
+ * batches is checked and read in both modes, as a whole and cut off, with tables and without, and measured and written
+ * again; and so is a keyed marker. It is compiled by tools/archive, without a C library: memcpy and memset are those
+ * below, and use no stack but for their return address. */
 typedef unsigned char byte;
 typedef __INT64_TYPE__ number;
 typedef __UINT64_TYPE__ word;
 
 /* All parameters are words, of which x86-64 passes six in registers. */
-enum { WORDS = 11, STACK = 1 << 14, PAINT = 0xA5, MOST = 1 << 18, ROWS = 1 << 14 };
+enum { WORDS = 12, STACK = 1 << 14, PAINT = 0xA5, MOST = 1 << 18, ROWS = 1 << 14 };
 
 #define EACH(F) F(check) F(read) F(measure) F(write) F(is_canonical) F(record_time) F(crc32c) F(version)
 #define DECLARED(name) void oddrafisk_##name(void);
@@ -20,16 +20,18 @@ static const char *const names[] = {EACH(NAMED)};
 
 static byte stacks[FUNCTIONS][STACK] __attribute__((aligned(16)));
 static byte log[MOST], output[MOST];
+/* An abort as it is written in the keyed mode, all fields 0. */
+static const byte keyed[72] = {[11] = 60, [16] = 2, [17] = 0xEC, [18] = 0xE5, [19] = 0x1F, [20] = 0xAE,
+                               [22] = 32, [60] = 1, [61] = 0x14, [65] = 8, [70] = 1};
 static number records[8 * ROWS], headers[4 * ROWS], batch[16], answer[16];
 
-/* Calls a function on the stack that ends at `top`, which is 8 above a multiple of 16. Five words lie on it before the
- * call. */
+/* Calls a function on the stack that ends at `top`, which is a multiple of 16. Six words lie on it before the call. */
 word on_stack(void (*function)(void), const word words[WORDS], byte *top);
 __asm__("on_stack: push %rbp; mov %rsp, %rbp; mov %rdx, %rsp; mov %rdi, %rax; mov %rsi, %r10;"
-        "push 80(%r10); push 72(%r10); push 64(%r10); push 56(%r10); push 48(%r10);"
+        "push 88(%r10); push 80(%r10); push 72(%r10); push 64(%r10); push 56(%r10); push 48(%r10);"
         "mov (%r10), %rdi; mov 8(%r10), %rsi; mov 16(%r10), %rdx; mov 24(%r10), %rcx; mov 32(%r10), %r8;"
         "mov 40(%r10), %r9; call *%rax; mov %rbp, %rsp; pop %rbp; ret");
-#define CALL(name, ...) on_stack(oddrafisk_##name, (word[WORDS]){__VA_ARGS__}, stacks[AT_##name] + STACK - 8)
+#define CALL(name, ...) on_stack(oddrafisk_##name, (word[WORDS]){__VA_ARGS__}, stacks[AT_##name] + STACK)
 
 __asm__(".globl _start; _start: call run; mov %eax, %edi; mov $60, %eax; syscall");
 
@@ -58,31 +60,39 @@ static word read_log(void) {
 }
 
 /* The first `count` bytes, which are no whole batch. */
-static void cut_off(const byte *bytes, word count) {
-    CALL(check, (word)bytes, count, (word)answer);
-    CALL(read, (word)bytes, count, (word)records, 8 * ROWS, (word)headers, 4 * ROWS, (word)answer);
-    CALL(is_canonical, (word)bytes, count);
+static void cut_off(word mode, const byte *bytes, word count) {
+    CALL(check, mode, (word)bytes, count, (word)answer);
+    CALL(read, mode, (word)bytes, count, (word)records, 8 * ROWS, (word)headers, 4 * ROWS, (word)answer);
+    CALL(is_canonical, mode, (word)bytes, count);
     CALL(crc32c, (word)bytes, count);
 }
 
 /* Reads the batch that the bytes begin with, and writes it again: how many bytes it has, or 0 where it is none. */
-static word whole(const byte *bytes, word count) {
-    CALL(check, (word)bytes, count, (word)answer);
-    CALL(read, (word)bytes, count, (word)records, 0, (word)headers, 0, (word)answer);
-    if (CALL(read, (word)bytes, count, (word)records, 8 * ROWS, (word)headers, 4 * ROWS, (word)batch)) return 0;
+static word whole(word mode, const byte *bytes, word count) {
+    CALL(check, mode, (word)bytes, count, (word)answer);
+    CALL(read, mode, (word)bytes, count, (word)records, 0, (word)headers, 0, (word)answer);
+    if (CALL(read, mode, (word)bytes, count, (word)records, 8 * ROWS, (word)headers, 4 * ROWS, (word)batch)) return 0;
     word size = (word)batch[13];
-    CALL(is_canonical, (word)bytes, size);
+    CALL(is_canonical, mode, (word)bytes, size);
     CALL(crc32c, (word)bytes, size);
-    CALL(measure, (word)batch, 0, (word)records, 8 * ROWS, (word)headers, 4 * ROWS, (word)bytes, count, (word)answer);
+    CALL(measure, mode, (word)batch, 0, (word)records, 8 * ROWS, (word)headers, 4 * ROWS, (word)bytes, count,
+         (word)answer);
     for (word room = size; room + 2 > size; room--)
-        CALL(write, (word)batch, 0, (word)records, 8 * ROWS, (word)headers, 4 * ROWS, (word)bytes, count,
+        CALL(write, mode, (word)batch, 0, (word)records, 8 * ROWS, (word)headers, 4 * ROWS, (word)bytes, count,
              (word)output, room, (word)answer);
     for (number row = 0; row < batch[11]; row++)
         CALL(record_time, (word)batch[8], (word)batch[3], (word)batch[4], (word)records[8 * row], (word)answer);
     return size;
 }
 
-/* The bytes from the first that is not painted on, without the five words of the call. */
+/* The same with every beginning of it, or the more of them the shorter they are. */
+static word in_parts(word mode, const byte *bytes, word count) {
+    word size = whole(mode, bytes, count);
+    for (word part = 0; part < size; part += 1 + part / 16) cut_off(mode, bytes, part);
+    return size;
+}
+
+/* The bytes from the first that is not painted on, without the six words of the call. */
 static void print_used(int which) {
     byte digits[8];
     word used = STACK - 48, at = sizeof digits, length = 0;
@@ -96,15 +106,16 @@ static void print_used(int which) {
     system_call(1, 1, digits + at, sizeof digits - at);
 }
 
-/* 0 where the log is read to its end. */
+/* 0 where the log is read to its end by the bare mode, 0, and the keyed marker by the keyed one, 1. */
 int run(void) {
     word count = read_log(), place = 0, size = 1;
     memset(stacks, PAINT, sizeof stacks);
     CALL(version, 0);
     for (; place < count && size; place += size) {
-        size = whole(log + place, count - place);
-        for (word part = 0; part < size; part += 1 + part / 16) cut_off(log + place, part);
+        in_parts(1, log + place, count - place);
+        size = in_parts(0, log + place, count - place);
     }
+    word marker = in_parts(1, keyed, sizeof keyed);
     for (int which = 0; which < FUNCTIONS; which++) print_used(which);
-    return place == count && count ? 0 : 1;
+    return place == count && count && marker == sizeof keyed ? 0 : 1;
 }

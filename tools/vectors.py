@@ -3,8 +3,9 @@
 
     tools/vectors.py vectors > crates/vectors/stdin
 
-Every expectation is worked out here, by Python's arithmetic, from the sentences and tables of document 01, from RFC
-3720's polynomial and from RFC 3629's rows. Nothing of the code under test is used."""
+Every expectation is worked out here, by Python's arithmetic, from the sentences and tables of document 01, from Kafka's
+page for control batches as brokers write them, from RFC 3720's polynomial and from RFC 3629's rows. Nothing of the code
+under test is used."""
 from itertools import islice
 import sys
 import zlib
@@ -41,9 +42,12 @@ ABOUT = """\
 # HEX is capital digits, two to a byte, or - for no bytes."""
 ABOUT_BATCHES = """\
 # Cases for crates/batch_vectors, written by tools/vectors.py. The expectations come from the sentences and tables of
-# document 01, by Python's arithmetic, and not from the code under test.
+# document 01 and, for control batches as brokers write them, from Kafka's page, by Python's arithmetic, and not from
+# the code under test.
 #
 # = NAME                         the cases that follow, up to the next such line, are the group NAME
+# bare .., keyed ..              the case that follows the word holds where markers stand alone, as document 01 has
+#                                them, or in the key of a record, as brokers write them. Every other holds in both modes
 # batch HEX R H NUMBER [..]      reading a batch at the start of the bytes HEX into tables of R and of H numbers answers
 #                                document 01's NUMBER. After 0 (accepted) follow the fields: base offset, leader epoch,
 #                                last offset delta, first and max timestamp, producer id, producer epoch, base sequence,
@@ -182,7 +186,7 @@ BAD_KEYS = [
 ]
 
 # A text has fewer bytes than this.
-MOST_TEXT = 262144
+MOST_TEXT = 524288
 
 # Document 01, "Fixed fields": place, bytes and field, and what it has here where a case says nothing else.
 FIXED = [
@@ -198,6 +202,8 @@ FIELDS = [
 ]
 LOG_APPEND, TRANSACTIONAL, CONTROL = 8, 16, 32
 ABORT, COMMIT = bytes(4), bytes([0, 0, 0, 1])
+# The markers alone, and in the key of a record.
+BARE, KEYED = "bare", "keyed"
 # A record's bytes and the number that they give, with enough before them and nothing behind.
 RECORD_FAULTS = [
     ("", PAST_END), ("0C0000000101", PAST_END), ("0C0000000A", PAST_END), ("FFFFFFFF10", BEYOND_LIMITS),
@@ -205,6 +211,19 @@ RECORD_FAULTS = [
     ("0C000000010101", NEGATIVE_LENGTH), ("12000000010102028000", NOT_UTF8), ("12000000010102028001", NOT_UTF8),
     ("12000000010102024101", NEGATIVE_LENGTH), ("0E00000001010000", BYTES_LEFT), ("0C00000001010000", BYTES_LEFT),
 ]
+# Bodies of control batches, and their numbers in bare and in keyed mode.
+CONTROL_BODIES = [
+    ("1400000008000000000100", UNKNOWN_CONTROL, ACCEPTED), ("1400000008000000010100", UNKNOWN_CONTROL, ACCEPTED),
+    ("00000000", ACCEPTED, PAST_END), ("0C000000010100", UNKNOWN_CONTROL, UNKNOWN_CONTROL),
+    ("12000000060000000100", UNKNOWN_CONTROL, UNKNOWN_CONTROL),
+    ("1400000008000100000100", UNKNOWN_CONTROL, UNKNOWN_CONTROL),
+    ("1400000008000000020100", UNKNOWN_CONTROL, UNKNOWN_CONTROL),
+    ("160000000A00000001FF0100", UNKNOWN_CONTROL, ACCEPTED),
+    ("2000000008000000010C00000000000000", UNKNOWN_CONTROL, ACCEPTED),
+    ("0C00000001010000", UNKNOWN_CONTROL, BYTES_LEFT), ("1400000001010202FF0000", UNKNOWN_CONTROL, NOT_UTF8),
+]
+# The checksum of the first of them, where all fields are 0.
+CONTROL_CHECKSUM = bytes.fromhex("ECE51FAE")
 # What the program's large batches show, and how many rows of each table there are.
 LARGE_SOURCE, LARGE_ROWS = 262144, (8192, 16384)
 # Kinds, in the order of their numbers.
@@ -258,6 +277,14 @@ class Text:
         line = " ".join((w.hex().upper() or "-") if isinstance(w, bytes) else str(w) for w in words)
         if line not in self.groups[-1]:
             self.groups[-1].append(line)
+
+    def cases(self, bare, keyed):
+        """A case in each mode: one for both, where they are the same."""
+        if bare == keyed:
+            self.case(*bare)
+        else:
+            self.case(BARE, *bare)
+            self.case(KEYED, *keyed)
 
     def whole(self):
         whole = "".join(line + "\n" for lines in self.groups for line in lines)
@@ -815,7 +842,7 @@ def integer(stream, size):
     return int.from_bytes(bytes(octet(stream)[1] for _ in range(size)), "big", signed=True)
 
 
-def batch_parts(data):
+def batch_parts(data, mode):
     """What an accepted batch at the start of the data is told to be, and both tables; in the order of document 01,
     "Reader's numbers"."""
     if len(data) < UNCOUNTED:
@@ -840,12 +867,12 @@ def batch_parts(data):
         raise Refused(UNKNOWN_CODEC)
     for size, name in FIELDS[2:]:
         fields[name] = integer(stream, size)
-    kind, tables = batch_body(data[:whole], attributes, integer(stream, 4), stream)
+    kind, tables = batch_body(data[:whole], attributes, integer(stream, 4), stream, mode)
     told = (*fields.values(), attributes // LOG_APPEND % 2, attributes // TRANSACTIONAL % 2, kind)
     return told + (len(tables[0]), len(tables[1]), whole), tables
 
 
-def batch_body(batch, attributes, count, stream):
+def batch_body(batch, attributes, count, stream, mode):
     """The kind, and both tables. The count has just been read."""
     if count < -1:
         raise Refused(WRONG_COUNT)
@@ -855,20 +882,34 @@ def batch_body(batch, attributes, count, stream):
         return 0, record_tables(batch, BODY, max(count, 0), 0)
     if count != 1:
         raise Refused(WRONG_COUNT)
+    return (marker_alone(stream) if mode == BARE else marker_in_key(batch)), ([], [])
+
+
+def marker_alone(stream):
     if integer(stream, 2) != 0:
         raise Refused(UNKNOWN_CONTROL)
-    kind = {0: 1, 1: 2}.get(integer(stream, 2))
+    kind = {0: ABORT_KIND, 1: COMMIT_KIND}.get(integer(stream, 2))
     if not kind:
         raise Refused(UNKNOWN_CONTROL)
     for _ in stream:
         raise Refused(BYTES_LEFT)
-    return kind, ([], [])
+    return kind
 
 
-def batch_answer(data, room):
+def marker_in_key(batch):
+    """Kafka, message format, control batch: one record, which ends the batch, and whose key begins with the marker.
+    All of it is judged as any record is before its key is looked at; whatever else it holds is of no concern."""
+    ((_, _, start, size, *_),), _ = record_tables(batch, BODY, 1, 0)
+    kind = {ABORT: ABORT_KIND, COMMIT: COMMIT_KIND}.get(batch[start:start + 4]) if size >= 4 else None
+    if not kind:
+        raise Refused(UNKNOWN_CONTROL)
+    return kind
+
+
+def batch_answer(data, room, mode):
     """The answer's numbers, those of the check, and both tables."""
     try:
-        told, tables = batch_parts(data)
+        told, tables = batch_parts(data, mode)
     except Refused as refused:
         return refused.args, refused.args, ()
     check = (ACCEPTED, *told)
@@ -878,18 +919,24 @@ def batch_answer(data, room):
     return check, check, tables
 
 
-def batch(text, expected, data, room=ROOM, start=None):
-    """A case whose number is expected by whoever puts it here: of the data, or of each start that has so many bytes."""
-    read, check, tables = batch_answer(data, room)
-    assert read[0] == expected, (data.hex(), read, expected)
+def batch(text, expected, data, room=ROOM, start=None, keyed=None):
+    """A case whose number is expected by whoever puts it here: of the data, or of each start that has so many bytes. In
+    keyed mode it is the same where nothing else is said."""
+    text.cases(batch_words(BARE, expected, data, room, start),
+               batch_words(KEYED, expected if keyed is None else keyed, data, room, start))
+
+
+def batch_words(mode, expected, data, room, start):
+    read, check, tables = batch_answer(data, room, mode)
+    assert read[0] == expected, (mode, data.hex(), read, expected)
     for end in range(start or len(data), len(data)):
-        assert batch_answer(data[:end], room) == (read, check, tables)
+        assert batch_answer(data[:end], room, mode) == (read, check, tables)
     for end in range(start or 0):
         needed = next(n for n in (UNCOUNTED, BEFORE_CRC, start) if end < n)
-        assert batch_answer(data[:end], room)[0] == (MORE_BYTES, needed)
+        assert batch_answer(data[:end], room, mode)[0] == (MORE_BYTES, needed)
     assert UNNAMED not in read + check
     words = [*(("cuts", data, start) if start else ("batch", data)), *room, *read]
-    text.case(*behind_bars(words, [check] if expected == NO_ROOM else table_numbers(tables)))
+    return behind_bars(words, [check] if expected == NO_ROOM else table_numbers(tables))
 
 
 def batch_of(body=b"", upto=None, **others):
@@ -919,6 +966,21 @@ def marker(body=ABORT, attributes=CONTROL, **others):
     return batch_of(body, attributes=attributes, **{"count": 1, **others})
 
 
+def key_record(key, **others):
+    """The record of a control batch as it is written, with this key, or a null, and with others in place of some
+    parts."""
+    parts = {"attributes": "00", "timestamp": "00", "offset": "00", "value_length": NULL, "value": "", **NO_HEADER}
+    spelled = {"key_length": NULL, "key": ""}
+    if key is not None:
+        spelled = {"key_length": varying(len(key)).hex(), "key": key.hex()}
+    return record_of(**{**parts, **spelled, **others})
+
+
+def valued(value):
+    """The parts of a record that has this value."""
+    return {"value_length": varying(len(value)).hex(), "value": value.hex()}
+
+
 def flipped(data, place, bit=0):
     return data[:place] + bytes([data[place] ^ 1 << bit]) + data[place + 1:]
 
@@ -945,7 +1007,7 @@ def batches_examples(text):
     for body in (ABORT, COMMIT):
         data = marker(body)
         assert data[8:12] == bytes([0, 0, 0, 53])
-        batch(text, ACCEPTED, data)
+        batch(text, ACCEPTED, data, keyed=PAST_END)
 
 
 def batches_lengths(text):
@@ -995,7 +1057,7 @@ def batches_fields(text):
 
     def told(values):
         data = batch_of(**values)
-        answer, _, _ = batch_answer(data, ROOM)
+        answer, _, _ = batch_answer(data, ROOM, BARE)
         assert all(n == values.get(name, n) for n, (_, name) in zip(answer[1:], FIELDS))
         batch(text, ACCEPTED, data)
 
@@ -1008,15 +1070,15 @@ def batches_fields(text):
         told({name: (sign - 1) // 2 for _, name in FIELDS})
     told({name: -2 ** (8 * size - 1) for size, name in FIELDS})
     for bits in range(4):
-        for body in (None, ABORT, COMMIT):
-            attributes = bits * LOG_APPEND
-            data = batch_of(attributes=attributes) if body is None else marker(body, attributes + CONTROL)
-            batch(text, ACCEPTED, data)
+        attributes = bits * LOG_APPEND
+        batch(text, ACCEPTED, batch_of(attributes=attributes))
+        for body in (ABORT, COMMIT):
+            batch(text, ACCEPTED, marker(body, attributes + CONTROL), keyed=PAST_END)
     for bit in (6, 7, 8, 11, 15):
         batch(text, ACCEPTED, batch_of(attributes=1 << bit))
     for attributes in (0xFFC0, 0xFFD8):
         batch(text, ACCEPTED, batch_of(attributes=attributes))
-        batch(text, ACCEPTED, marker(COMMIT, attributes + CONTROL))
+        batch(text, ACCEPTED, marker(COMMIT, attributes + CONTROL), keyed=PAST_END)
     for attributes, expected in ((0xFFC1, COMPRESSED), (0xFFFD, UNKNOWN_CODEC)):
         batch(text, expected, batch_of(attributes=attributes))
 
@@ -1109,25 +1171,135 @@ def batches_control(text):
     text.heading("batches, control")
     for body in (ABORT, COMMIT):
         for room in ((0, 0), (7, 3), ROOM):
-            batch(text, ACCEPTED, marker(body), room=room)
+            batch(text, ACCEPTED, marker(body), room=room, keyed=PAST_END)
         for more in (b"\0", b"\xff", body):
-            batch(text, BYTES_LEFT, marker(body + more))
+            batch(text, BYTES_LEFT, marker(body + more), keyed=PAST_END)
         for upto in range(4):
             batch(text, PAST_END, marker(body[:upto]))
     for count in (-1, 0, 2, 257, 2 ** 31 - 1, -2, -2 ** 31):
         batch(text, WRONG_COUNT, marker(count=count))
     batch(text, WRONG_COUNT, marker(b"", count=0))
     batch(text, WRONG_COUNT, marker(b"\0\1", count=2))
+    # in keyed mode these are the lengths 0, -1, one that is cut off or -8192, 0 and 0
     for version in ("0001", "0100", "FFFF", "8000", "0002"):
         for more in ("", "0000"):
-            batch(text, UNKNOWN_CONTROL, marker(bytes.fromhex(version + more)))
-    batch(text, PAST_END, marker(b"\1"))
+            keyed = NEGATIVE_LENGTH if version + more in ("0100", "01000000", "FFFF0000") else PAST_END
+            batch(text, UNKNOWN_CONTROL, marker(bytes.fromhex(version + more)), keyed=keyed)
+    batch(text, PAST_END, marker(b"\1"), keyed=NEGATIVE_LENGTH)
     for kind in ("0002", "0003", "0100", "0101", "8000", "8001", "FFFF"):
-        batch(text, UNKNOWN_CONTROL, marker(bytes.fromhex("0000" + kind)))
-    batch(text, UNKNOWN_CONTROL, marker(bytes.fromhex("0000000200")))
+        batch(text, UNKNOWN_CONTROL, marker(bytes.fromhex("0000" + kind)), keyed=PAST_END)
+    batch(text, UNKNOWN_CONTROL, marker(bytes.fromhex("0000000200")), keyed=PAST_END)
     # the marker as the key of a record
-    batch(text, UNKNOWN_CONTROL, marker(record_of(key_length="08", key="00000001", **NO_HEADER)))
+    batch(text, UNKNOWN_CONTROL, marker(record_of(key_length="08", key="00000001", **NO_HEADER)), keyed=ACCEPTED)
     batch(text, UNKNOWN_CONTROL, marker(bytes.fromhex(RECORD_ROWS[0][0])))
+
+
+def in_keyed(text, expected, body, bare=UNKNOWN_CONTROL, attributes=CONTROL, room=ROOM, **others):
+    """A control batch with this body, by what is expected of it in keyed mode. In bare mode the first two bytes of a
+    record are no known version, or there are no two."""
+    batch(text, bare if len(body) > 1 else PAST_END, marker(body, attributes, **others), room=room, keyed=expected)
+
+
+def batches_keyed(text):
+    """One record, whose key begins with the marker. Nothing else of it is looked at."""
+    text.heading("batches, keyed control")
+    for digits, bare, keyed in CONTROL_BODIES:
+        batch(text, bare, marker(bytes.fromhex(digits)), keyed=keyed)
+    zeros = {name: 0 for _, name in FIELDS}
+    for key, (digits, _, _) in zip((ABORT, COMMIT), CONTROL_BODIES):
+        written = bytes.fromhex(digits)
+        data = marker(written)
+        assert key_record(key) == written and len(data) == 72 and data[8:12] == bytes([0, 0, 0, 60])
+        assert (marker(written, **zeros)[BEFORE_CRC:CHECKED] == CONTROL_CHECKSUM) == (key == ABORT)
+        in_keyed(text, ACCEPTED, written, **zeros)
+        in_keyed(text, ACCEPTED, written, **{name: different(size, 1 + 8 * rank)
+                                             for rank, (size, name) in enumerate(FIELDS)})
+        for room in ((0, 0), (7, 3), ROOM):
+            in_keyed(text, ACCEPTED, written, room=room)
+        # every start of the batch, and more behind it
+        for tail in (b"", b"\xff" * 17, data):
+            batch(text, UNKNOWN_CONTROL, data + tail, start=72, keyed=ACCEPTED)
+        for bits in (1, 2, 3, 0xFFC0 // LOG_APPEND):
+            in_keyed(text, ACCEPTED, written, attributes=CONTROL + bits * LOG_APPEND)
+        # keys that go on; values, and headers, with rows for them and with none; deltas, attributes
+        for more in (b"\xff", b"\0", bytes(range(0xA0, 0xB4))):
+            in_keyed(text, ACCEPTED, key_record(key + more))
+        for value in (b"", b"\xb0", bytes(6), bytes.fromhex("000000000005")):
+            in_keyed(text, ACCEPTED, key_record(key, **valued(value)))
+        for room in ((0, 0), (8, 3), ROOM):
+            in_keyed(text, ACCEPTED, record_of(key_length="08", key=key.hex()), room=room)
+        for part, n in (("timestamp", -2 ** 63), ("timestamp", 77), ("offset", 2 ** 31 - 1), ("offset", -1)):
+            in_keyed(text, ACCEPTED, key_record(key, **{part: varying(n).hex()}))
+        for attributes in ("01", "FF"):
+            in_keyed(text, ACCEPTED, key_record(key, attributes=attributes))
+        # numbers in more bytes than they need
+        for part, n in (("timestamp", 0), ("offset", 0), ("key_length", 4), ("value_length", -1), ("count", 0)):
+            in_keyed(text, ACCEPTED, key_record(key, **{part: varying(n, 3).hex()}))
+        in_keyed(text, ACCEPTED, varying(10, 3) + written[1:])
+
+
+def batches_keyed_unknown(text):
+    """Keys that are null, short, or of an unknown version or type."""
+    text.heading("batches, keyed control unknown")
+    for room in ((0, 0), ROOM):
+        in_keyed(text, UNKNOWN_CONTROL, key_record(None), room=room)
+    for size in range(4):
+        # what follows the key would end the marker: a null value is 01, an empty one 00
+        for key, others in ((COMMIT, {}), (ABORT, {"value_length": EMPTY}), (ABORT, valued(COMMIT[size + 1:]))):
+            in_keyed(text, UNKNOWN_CONTROL, key_record(key[:size], **others))
+    for version in ("0001", "0100", "FFFF", "8000", "0002"):
+        for kind in ("0000", "0001"):
+            in_keyed(text, UNKNOWN_CONTROL, key_record(bytes.fromhex(version + kind)))
+    for kind in ("0002", "0003", "0100", "0101", "8000", "8001", "FFFF"):
+        in_keyed(text, UNKNOWN_CONTROL, key_record(bytes.fromhex("0000" + kind)))
+    # the marker elsewhere: behind other bytes of the key, in the value, in a header
+    for key in (b"\xa0" + COMMIT, b"\0\0\0\2" + COMMIT):
+        in_keyed(text, UNKNOWN_CONTROL, key_record(key))
+    in_keyed(text, UNKNOWN_CONTROL, key_record(None, **valued(COMMIT)))
+    in_keyed(text, UNKNOWN_CONTROL, with_headers(pair(COMMIT, ABORT)))
+
+
+def batches_keyed_faults(text):
+    """Each fault of a record. The key is judged when all else is."""
+    text.heading("batches, keyed control faults")
+    for fault, expected in RECORD_FAULTS:
+        in_keyed(text, expected, bytes.fromhex(fault))
+    in_keyed(text, BYTES_LEFT, bytes.fromhex(RECORD_NAMES_100))
+    for whole in (key_record(COMMIT), key_record(None)):
+        body = whole[1:]
+        for end in range(len(whole)):
+            in_keyed(text, PAST_END, whole[:end])
+        # a length of 0 is read as the beginning of an abort in bare mode
+        for named in range(len(body)):
+            in_keyed(text, PAST_END, varying(named) + body, bare=UNKNOWN_CONTROL if named else BYTES_LEFT)
+        in_keyed(text, BYTES_LEFT, varying(len(body) + 1) + body)
+        for more in (b"\0", b"\xff", whole):
+            in_keyed(text, BYTES_LEFT, whole + more)
+            in_keyed(text, BYTES_LEFT, varying(len(body) + len(more)) + body + more)
+    for key in (None, ABORT[:3], b"\0\1\0\0", b"\0\0\0\2", COMMIT):
+        for expected, others in (
+            (BEYOND_LIMITS, {"timestamp": "FF" * 9 + "02"}), (BEYOND_LIMITS, {"offset": ROWS_REFUSED[0]}),
+            (BEYOND_LIMITS, {"value_length": ROWS_REFUSED[0]}), (BEYOND_LIMITS, {"count": ROWS_REFUSED[1]}),
+            (NEGATIVE_LENGTH, {"value_length": "03"}), (NEGATIVE_LENGTH, {"count": "01"}),
+            (PAST_END, {"value_length": "12"}), (PAST_END, {"count": "02"}), (BYTES_LEFT, {"header_key": "00"}),
+            (NOT_UTF8, {"count": "02", "header_key": "02FF00"}), (NOT_UTF8, {"count": "02", "header_key": "02FF01"}),
+            (NEGATIVE_LENGTH, {"count": "02", "header_key": "0100"}),
+            (NEGATIVE_LENGTH, {"count": "02", "header_key": "024101"}),
+            (PAST_END, {"count": "02", "header_key": "024106"}),
+        ):
+            in_keyed(text, expected, key_record(key, **others))
+        in_keyed(text, BYTES_LEFT, key_record(key) + b"\0")
+    for digits, expected in (("03", NEGATIVE_LENGTH), (ROWS_REFUSED[0], BEYOND_LIMITS), ("0E", PAST_END),
+                             (varying(GREATEST_LENGTH).hex(), PAST_END)):
+        in_keyed(text, expected, key_record(COMMIT, key_length=digits))
+    # what is met before the record, alike in both modes
+    for body in (key_record(COMMIT), key_record(None)):
+        for count in (-1, 0, 2, 257, 2 ** 31 - 1, -2, -2 ** 31):
+            in_keyed(text, WRONG_COUNT, body, bare=WRONG_COUNT, count=count)
+        in_keyed(text, WRONG_COUNT, body + body, bare=WRONG_COUNT, count=2)
+        for codec, expected in ((1, COMPRESSED), (4, COMPRESSED), (5, UNKNOWN_CODEC)):
+            in_keyed(text, expected, body, bare=expected, attributes=CONTROL + codec)
+        in_keyed(text, CHECKSUM_DIFFERS, body, bare=CHECKSUM_DIFFERS, crc=9)
 
 
 def batches_records(text):
@@ -1187,16 +1359,17 @@ def batches_followed(text):
     """Each start of a batch, and more behind it than the batch."""
     text.heading("batches, followed")
     records_batch, empty, commit = of_records(*three_records()), batch_of(), marker(COMMIT)
-    for data in (records_batch, empty, commit):
+    for data, keyed in ((records_batch, ACCEPTED), (empty, ACCEPTED), (commit, PAST_END)):
         for tail in (bytes(3), b"\xff" * 17, b"\2", empty, commit):
-            batch(text, ACCEPTED, data + tail, start=len(data))
-    for data, expected in (
-        (batch_of(crc=1), CHECKSUM_DIFFERS), (batch_of(attributes=7), UNKNOWN_CODEC),
-        (batch_of(attributes=3), COMPRESSED), (batch_of(count=-2), WRONG_COUNT), (batch_of(count=1), PAST_END),
-        (marker(bytes(3)), PAST_END), (marker(b"\0\1"), UNKNOWN_CONTROL), (marker(bytes(5)), BYTES_LEFT),
-        (batch_of(bytes(1)), BYTES_LEFT),
+            batch(text, ACCEPTED, data + tail, start=len(data), keyed=keyed)
+    for data, expected, keyed in (
+        (batch_of(crc=1), CHECKSUM_DIFFERS, None), (batch_of(attributes=7), UNKNOWN_CODEC, None),
+        (batch_of(attributes=3), COMPRESSED, None), (batch_of(count=-2), WRONG_COUNT, None),
+        (batch_of(count=1), PAST_END, None), (marker(bytes(3)), PAST_END, None),
+        (marker(b"\0\1"), UNKNOWN_CONTROL, PAST_END), (marker(bytes(5)), BYTES_LEFT, PAST_END),
+        (batch_of(bytes(1)), BYTES_LEFT, None),
     ):
-        batch(text, expected, data + ABORT, start=len(data))
+        batch(text, expected, data + ABORT, start=len(data), keyed=keyed)
 
 
 def record_times(text):
@@ -1262,23 +1435,24 @@ def written_records(source, count, records, headers, first=0):
     return written
 
 
-def written_batch(source, kind, count, records, headers, fields):
+def written_batch(source, kind, count, records, headers, fields, mode):
     """The fields are in the order of an answer, with the timestamp type and the transactional flag behind them."""
     *values, log_append, transactional = fields
     values = dict(zip((name for _, name in FIELDS), values))
     attributes = log_append * LOG_APPEND + transactional * TRANSACTIONAL
     if kind:
-        return marker((ABORT, COMMIT)[kind - 1], attributes + CONTROL, **values)
+        alone = (ABORT, COMMIT)[kind - 1]
+        return marker(alone if mode == BARE else key_record(alone), attributes + CONTROL, **values)
     return of_records(*written_records(source, count, records, headers), attributes=attributes, **values)
 
 
-def is_canonical(data):
+def is_canonical(data, mode):
     """Whether all the bytes are a batch, and what is written for it."""
     try:
-        (*fields, kind, count, _, whole), tables = batch_parts(data)
+        (*fields, kind, count, _, whole), tables = batch_parts(data, mode)
     except Refused:
         return False
-    return whole == len(data) and written_batch(data, kind, count, *table_numbers(tables), fields) == data
+    return whole == len(data) and written_batch(data, kind, count, *table_numbers(tables), fields, mode) == data
 
 
 def contents(source, records, headers):
@@ -1292,24 +1466,30 @@ def contents(source, records, headers):
 
 def write(text, expected, rows=(), header_rows=(), count=None, source=SOURCE, codec=0, kind=RECORDS_KIND, more=((), ()),
           fields=(1, 2, 3, 4, 5, 6, 7, 8, 0, 0)):
-    """A case whose number is expected by whoever puts it here. Numbers may follow the rows of both tables."""
+    """A case whose number is expected, in both modes, by whoever puts it here. Numbers may follow the rows of both
+    tables."""
     count = len(rows) if count is None else count
     records = [n for row in rows for n in row] + list(more[0])
     headers = [n for row in header_rows for n in row] + list(more[1])
+    text.cases(*(write_words(mode, expected, records, headers, count, source, codec, kind, fields)
+                 for mode in (BARE, KEYED)))
+
+
+def write_words(mode, expected, records, headers, count, source, codec, kind, fields):
     found, data = ACCEPTED, b""
     try:
         if codec:
             raise Refused(WRONG_CODEC)
-        data = written_batch(source, kind, count, records, headers, fields)
-        told, tables = batch_parts(data)
+        data = written_batch(source, kind, count, records, headers, fields, mode)
+        told, tables = batch_parts(data, mode)
         used = (0, 0) if kind else (8 * count, 4 * sum(row[7] for row in whole_rows(records, 8)[:count]))
-        assert told[:11] == (*fields, kind) and told[13] == len(data) and is_canonical(data)
+        assert told[:11] == (*fields, kind) and told[13] == len(data) and is_canonical(data, mode)
         assert contents(data, *table_numbers(tables)) == contents(source, records[:used[0]], headers[:used[1]])
     except Refused as refused:
         found, = refused.args
-    assert found == expected, (rows, header_rows, found, expected)
+    assert found == expected, (records, headers, found, expected)
     words = ["write", source, data, codec, kind, counted(count), *fields, found]
-    text.case(*behind_bars(words, [records, headers]))
+    return behind_bars(words, [records, headers])
 
 
 def counted(n):
@@ -1669,42 +1849,56 @@ def written_large(text):
     large(text, WRONG_ROW, 1, 1, value=LARGE_SOURCE + 1)
 
 
-def canonical(text, data, expected=None):
-    """So many bytes are expected to be canonical by whoever puts it here; all of them where nothing is said."""
+def canonical(text, data, expected=None, keyed=None):
+    """So many bytes are expected to be canonical by whoever puts it here; all of them where nothing is said. In keyed
+    mode it is the same where nothing else is said."""
     whole = len(data) if expected is None else expected
-    assert [end for end in range(len(data) + 1) if is_canonical(data[:end])] == ([whole] if whole else [])
-    text.case("canonical", data, whole)
+    text.cases(canonical_words(BARE, data, whole), canonical_words(KEYED, data, whole if keyed is None else keyed))
+
+
+def canonical_words(mode, data, whole):
+    assert [end for end in range(len(data) + 1) if is_canonical(data[:end], mode)] == ([whole] if whole else [])
+    return ["canonical", data, whole]
 
 
 def canonical_batches(text):
     """Batches as they are written, and all that they could be instead."""
     text.heading("canonical, batches")
     one = of_records(record_of())
-    for data in (batch_of(), one, marker(ABORT), marker(COMMIT), of_records(*three_records())):
-        canonical(text, data)
+    for data, modes in (
+        (batch_of(), (1, 1)), (one, (1, 1)), (marker(ABORT), (1, 0)), (marker(COMMIT), (1, 0)),
+        (marker(key_record(ABORT)), (0, 1)), (marker(key_record(COMMIT)), (0, 1)),
+        (of_records(*three_records()), (1, 1)),
+    ):
+        whole = [is_one * len(data) for is_one in modes]
+        canonical(text, data, *whole)
         for tail in (b"\0", b"\xff", data):
-            canonical(text, data + tail, len(data))
+            canonical(text, data + tail, *whole)
         for place in (17, 20, 23, len(data) - 1):
             canonical(text, flipped(data, place), 0)
         canonical(text, flipped(data, 16), 0)
         for place in (3, 12):
-            canonical(text, flipped(data, place))
+            canonical(text, flipped(data, place), *whole)
     for bits in range(4):
         canonical(text, batch_of(attributes=bits * LOG_APPEND))
-        canonical(text, marker(COMMIT, bits * LOG_APPEND + CONTROL))
+        canonical(text, marker(COMMIT, bits * LOG_APPEND + CONTROL), keyed=0)
+        canonical(text, marker(key_record(COMMIT), bits * LOG_APPEND + CONTROL), 0, keyed=72)
     for bit in range(6, 16):
         canonical(text, batch_of(attributes=1 << bit), 0)
         canonical(text, marker(ABORT, CONTROL + (1 << bit)), 0)
+        canonical(text, marker(key_record(ABORT), CONTROL + (1 << bit)), 0)
         canonical(text, of_records(record_of(), attributes=TRANSACTIONAL + (1 << bit)), 0)
     canonical(text, batch_of(attributes=0xFFC0), 0)
     for codec in range(1, 8):
         canonical(text, batch_of(attributes=codec), 0)
         canonical(text, of_records(record_of(), attributes=codec), 0)
         canonical(text, marker(ABORT, CONTROL + codec), 0)
+        canonical(text, marker(key_record(ABORT), CONTROL + codec), 0)
     for count in (-1, -2, 1, 256, -2 ** 31):
         canonical(text, batch_of(count=count), 0)
     for count in (-1, 0, 2, 257, 2 ** 31 - 1):
         canonical(text, marker(count=count), 0)
+        canonical(text, marker(key_record(ABORT), count=count), 0)
         canonical(text, of_records(record_of(), count=count), 0)
     for body in ("0001", "00010000", "00000002", "0000000100", "000000"):
         canonical(text, marker(bytes.fromhex(body)), 0)
@@ -1713,6 +1907,31 @@ def canonical_batches(text):
     for size, name in FIELDS:
         for n in (different(size, 1), -2 ** (8 * size - 1)):
             canonical(text, batch_of(**{name: n}))
+
+
+def canonical_keyed(text):
+    """A marker in the key of a record as it is written, and all that it could be instead."""
+    text.heading("canonical, keyed markers")
+    for key in (ABORT, COMMIT):
+        written = key_record(key)
+        for place, byte in enumerate(written):
+            for other in (byte ^ 1, byte + 2, byte + 0x80):
+                body = written[:place] + bytes([other]) + written[place + 1:]
+                # the last byte of the key makes the other marker
+                canonical(text, marker(body), 0, keyed=72 if (place, other) in ((8, 0), (8, 1)) else 0)
+        for end in range(len(written)):
+            canonical(text, marker(written[:end]), 0)
+        for more in (b"\0", b"\xff", written):
+            canonical(text, marker(written + more), 0)
+        for value in (b"", b"\xb0", bytes.fromhex("000000000005")):
+            canonical(text, marker(key_record(key, **valued(value))), 0)
+        canonical(text, marker(key_record(key + b"\xff")), 0)
+        canonical(text, marker(key_record(key, count="02", header_key="024100")), 0)
+        for part, n in (("timestamp", 0), ("offset", 0), ("key_length", 4), ("value_length", -1), ("count", 0)):
+            canonical(text, marker(key_record(key, **{part: varying(n, 2).hex()})), 0)
+        canonical(text, marker(varying(10, 2) + written[1:]), 0)
+        # the same bytes as a record of a batch that is no control batch
+        canonical(text, of_records(written))
 
 
 def canonical_records(text):
@@ -1790,6 +2009,9 @@ def batch_vectors(text):
     batches_checksum(text)
     batches_order(text)
     batches_control(text)
+    batches_keyed(text)
+    batches_keyed_unknown(text)
+    batches_keyed_faults(text)
     batches_records(text)
     batches_room(text)
     batches_followed(text)
@@ -1808,6 +2030,7 @@ def batch_vectors(text):
     written_apart(text)
     written_large(text)
     canonical_batches(text)
+    canonical_keyed(text)
     canonical_records(text)
 
 

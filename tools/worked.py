@@ -1,7 +1,8 @@
 #!/usr/bin/env python3
-"""Prints the worked batches of crates/examples:
+"""Prints the worked batches of crates/examples, and those of keyed mode, which only crates/worked computes with:
 
     tools/worked.py > crates/examples/specs/Examples.antt
+    tools/worked.py keyed > crates/worked/specs/Keyed.antt
 
 Their bytes are taken from samples/ or put together here. What is expected of them is worked out here, by Python's
 arithmetic, from the tables of document 01 and of bindings/c/oddrafisk.h, or stands beside them. Nothing of the code
@@ -9,6 +10,7 @@ under test is used."""
 from collections import namedtuple
 import pathlib
 import struct
+import sys
 
 ABOUT = """\
 -- Worked batches, written by tools/worked.py: bytes, and all that is to be read in them and written for them. The values
@@ -134,6 +136,17 @@ pub record Listed : Type 0 where
   pub listing : List ℕ
 """
 
+ABOUT_KEYED = """\
+-- Worked control batches as brokers write them, written by tools/worked.py keyed: the marker stands in the key of a
+-- record. The values come from the tables of document 01, from Kafka's page and from bindings/c/oddrafisk.h, by
+-- Python's arithmetic, and from no other definition. The listing reads none of them, so that they have no line.
+use Prim.Native.Nat.{ℕ}
+use mathlib.Core.Bool.{true, false}
+use mathlib.Core.List.{List, [], _∷_}
+use lib.IntN.{pos}
+use Rattle.examples.specs.Examples.{hex, minus, anAbort, aCommit, Example}
+"""
+
 SAMPLES = pathlib.Path(__file__).resolve().parent.parent / "samples"
 
 # Document 01, "Fixed fields", in their order.
@@ -198,6 +211,13 @@ MARKER_REFUSALS = [
     ("20 00 00 00 08 00000000 0C 000000000005 00", 12, "sarama 1.22.1: version and type stand in a record's key"),
 ]
 
+# sarama 1.22.1: an abort marker as brokers write it.
+SARAMA = bytes.fromhex("""
+    0000000000000000 00000042 00000000 02 37473112
+    0030 00000000 0000018BCFE56800 0000018BCFE56801 0000000000002329 0000 FFFFFFFF 00000001
+    20 00 00 00 08 00000000 0C 000000000005 00
+""")
+
 SOURCE = b"\xffsource of bytes"
 # A record's row, by the numbers that differ from these: key "source", value "of bytes", no headers.
 ROW = dict(timestamp=-5, offset=6, key=1, key_length=6, value=8, value_length=8, first=0, headers=0)
@@ -254,6 +274,10 @@ def record_bytes(record, attributes=0, count=1):
     fields = bytes([attributes]) + varying(record.timestampDelta, count) + varying(record.offsetDelta, count)
     fields += sized(record.key, count) + sized(record.value, count) + varying(len(record.headers), count)
     return sized(fields + b"".join(sized(part, count) for header in record.headers for part in header), count)
+
+
+def marker_record(marker):
+    return record_bytes(Record(0, 0, marker, None, []))
 
 
 def batch_bytes(fields, body, count, attributes=0, **changed):
@@ -318,25 +342,30 @@ class Reader:
         self.lines.append(cut(self.data[start:end], [place - start for place in self.ends if place < end]))
 
 
-def decoded(data):
+def decoded(data, keyed=False):
     fixed = dict(zip(NAMES, FIXED.unpack_from(data)))
     assert fixed["magic"] == 2 and UNCOUNTED + fixed["batchLength"] == len(data)
     assert fixed["crc"] == crc32c(data[CHECKED:]) and fixed["attributes"] % 8 == 0
-    if fixed["attributes"] & CONTROL:
+    is_control = fixed["attributes"] & CONTROL
+    if is_control and not keyed:
         return Batch(fixed, MARKERS[data[BODY:]], [], [], [], [cut(data[BODY:], [2])])
     reader = Reader(data)
     for _ in range(max(fixed["count"], 0)):
         reader.record()
     assert reader.at == len(data)
+    if is_control:
+        only, = reader.records
+        return Batch(fixed, MARKERS[only.key[:4]], [], [], [], reader.lines)
     return Batch(fixed, None, reader.records, reader.record_rows, reader.header_rows, reader.lines)
 
 
-def rewritten(batch):
+def rewritten(batch, keyed=False):
     """What the writer gives: the shortest numbers, and nothing where nothing is said."""
     fields = {name: batch.fixed[name] for name in FIELDS}
     attributes = batch.fixed["attributes"] % 64
     if batch.marker:
-        return batch_bytes(fields, next(data for data in MARKERS if MARKERS[data] == batch.marker), 1, attributes)
+        body = next(data for data in MARKERS if MARKERS[data] == batch.marker)
+        return batch_bytes(fields, marker_record(body) if keyed else body, 1, attributes)
     return batch_bytes(fields, b"".join(map(record_bytes, batch.records)), len(batch.records), attributes)
 
 
@@ -423,10 +452,10 @@ def plain_record(record):
     })
 
 
-def example(name, data, about):
+def example(name, data, about, keyed=False):
     """The bytes under the name, what they hold, and the example."""
-    batch = decoded(data)
-    given, bits = rewritten(batch), batch.fixed["attributes"]
+    batch = decoded(data, keyed)
+    given, bits = rewritten(batch, keyed), batch.fixed["attributes"]
     times = [batch.fixed["firstTimestamp"] + record.timestampDelta for record in batch.records]
     yield private(name, "List ℕ", hexed(fixed_lines(data) + batch.lines), about)
     if not batch.marker:
@@ -441,9 +470,9 @@ def example(name, data, about):
         "recordRows": in_record([row(r) for r in batch.record_rows]),
         "headerRows": in_record([row(r) for r in batch.header_rows]),
         "times": " ∷ ".join(["some (%s)" % number(t) if LEAST <= t <= LARGEST else "none" for t in times] + ["[]"]),
-        "written": name if given == data else hexed(fixed_lines(given) + decoded(given).lines, 10),
+        "written": name if given == data else hexed(fixed_lines(given) + decoded(given, keyed).lines, 10),
         "entries": in_record([row(four) for four in entries(batch, len(data))]),
-        "line": "text " + quoted(line(batch, len(data))),
+        "line": "[]" if keyed else "text " + quoted(line(batch, len(data))),
     }))
 
 
@@ -540,6 +569,23 @@ def marker_examples():
     }
 
 
+def keyed_examples():
+    commit = batch_bytes(UNLIKE, marker_record(COMMIT), 1, CONTROL + TRANSACTIONAL)
+    assert len(commit) == 72
+    return {
+        "keyed": (commit, "A commit marker of a transaction as it is written, create time."),
+        "brokers": (SARAMA, "An abort marker with a value of six bytes, of sarama 1.22.1: not canonical."),
+    }
+
+
+def keyed_parts():
+    batches = keyed_examples()
+    yield ABOUT_KEYED
+    for name, (data, about) in batches.items():
+        yield from example(name, data, about, keyed=True)
+    yield defined("keyedExamples", "List Example", " ∷ ".join([*(batch + "Example" for batch in batches), "[]"]))
+
+
 def listings(batches):
     some = {name: batches[name][0] for name in ("unlike", "committed", "bare", "aborted")}
     size = sum(map(len, some.values()))
@@ -579,4 +625,5 @@ def parts():
 
 # The usual check value, of the digits 1 to 9.
 assert crc32c(b"123456789") == 0xE3069283
-print("\n".join(parts()), end="")
+made = {(): parts, ("keyed",): keyed_parts}[tuple(sys.argv[1:])]
+print("\n".join(made()), end="")

@@ -1,14 +1,16 @@
 /* Prints the records of a log, a line each: offset, key and value.
  *
  *     cc -std=c11 example.c $(pkg-config --cflags --libs oddrafisk) -o example
- *     example LOG
+ *     example [bare|keyed] LOG
  *
- * Where the log cannot be read on, it says the place, the number and its words on standard error and ends with 1. */
+ * A log of a broker is to be read as `keyed`. One without markers may be read as either; `bare` is the default. Where
+ * the log cannot be read on, it says the place, the number and its words on standard error and ends with 1. */
 #include <oddrafisk.h>
 
 #include <inttypes.h>
 #include <stdio.h>
 #include <stdlib.h>
+#include <string.h>
 
 /* So many bytes in place of those at `old`, which may be null. They are never null, even where the size is 0. */
 static void *room(void *old, size_t size)
@@ -66,16 +68,16 @@ static void show_record(const uint8_t *bytes, int64_t base_offset, const int64_t
 }
 
 /* Shows the batch that the bytes begin with, and answers as oddrafisk_check does. */
-static uint32_t show_batch(const uint8_t *bytes, size_t bytes_count, int64_t answer[ODDRAFISK_ENTRIES])
+static uint32_t show_batch(uint32_t mode, const uint8_t *bytes, size_t bytes_count, int64_t answer[ODDRAFISK_ENTRIES])
 {
-    uint32_t number = oddrafisk_check(bytes, bytes_count, answer);
+    uint32_t number = oddrafisk_check(mode, bytes, bytes_count, answer);
     if (number != ODDRAFISK_ACCEPTED)
         return number;
     size_t record_numbers = ODDRAFISK_RECORD_NUMBERS(answer[ODDRAFISK_RECORDS]);
     size_t header_numbers = ODDRAFISK_HEADER_NUMBERS(answer[ODDRAFISK_HEADERS]);
     int64_t *records = room(NULL, record_numbers * sizeof *records);
     int64_t *headers = room(NULL, header_numbers * sizeof *headers);
-    number = oddrafisk_read(bytes, bytes_count, records, record_numbers, headers, header_numbers, answer);
+    number = oddrafisk_read(mode, bytes, bytes_count, records, record_numbers, headers, header_numbers, answer);
     for (size_t at = 0; number == ODDRAFISK_ACCEPTED && at < record_numbers; at += ODDRAFISK_RECORD_ROW)
         show_record(bytes, answer[ODDRAFISK_BASE_OFFSET], records + at);
     free(headers);
@@ -85,22 +87,25 @@ static uint32_t show_batch(const uint8_t *bytes, size_t bytes_count, int64_t ans
 
 int main(int count, char **words)
 {
-    if (count != 2 || oddrafisk_version() != ODDRAFISK_VERSION) {
-        fputs(count != 2 ? "usage: example LOG\n" : "example: it is linked with another version\n", stderr);
+    int keyed = count == 3 && strcmp(words[1], "keyed") == 0;
+    int right = count == 2 || keyed || (count == 3 && strcmp(words[1], "bare") == 0);
+    if (!right || oddrafisk_version() != ODDRAFISK_VERSION) {
+        fputs(right ? "example: it is linked with another version\n" : "usage: example [bare|keyed] LOG\n", stderr);
         return EXIT_FAILURE;
     }
+    const char *name = words[count - 1];
+    uint32_t mode = keyed ? ODDRAFISK_KEYED : ODDRAFISK_BARE;
     int64_t answer[ODDRAFISK_ENTRIES];
     size_t bytes_count, place = 0;
-    uint8_t *bytes = file_bytes(words[1], &bytes_count);
+    uint8_t *bytes = file_bytes(name, &bytes_count);
     uint32_t number = ODDRAFISK_ACCEPTED;
     while (place < bytes_count && number == ODDRAFISK_ACCEPTED) {
-        number = show_batch(bytes + place, bytes_count - place, answer);
+        number = show_batch(mode, bytes + place, bytes_count - place, answer);
         if (number == ODDRAFISK_ACCEPTED)
             place += (size_t)answer[ODDRAFISK_BYTES];
     }
     free(bytes);
     if (number != ODDRAFISK_ACCEPTED)
-        fprintf(stderr, "%s: stopped at %zu by number %" PRIu32 ": %s\n", words[1], place, number,
-                oddrafisk_words(number));
+        fprintf(stderr, "%s: stopped at %zu by number %" PRIu32 ": %s\n", name, place, number, oddrafisk_words(number));
     return number == ODDRAFISK_ACCEPTED && fflush(stdout) == 0 ? EXIT_SUCCESS : EXIT_FAILURE;
 }

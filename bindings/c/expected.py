@@ -3,7 +3,8 @@
 
     bindings/c/expected.py LOG
 
-The log is taken to have no fault but that it may be cut off: then the last line is what is to be said of that."""
+The log is taken to have no fault but that it may be cut off: then the last line is what is to be said of that. Markers,
+of whichever form, print nothing."""
 import struct
 import sys
 

@@ -29,6 +29,21 @@
  * many headers the records before it have, even where it has none itself. A table is lent by how many numbers it has,
  * while entries count rows: ODDRAFISK_RECORD_NUMBERS(rows) and ODDRAFISK_HEADER_NUMBERS(rows) are the numbers of so
  * many rows. It has as many rows as are whole; what is left over is never touched.
+ *
+ * MODES. A control batch, which ends a transaction, has a marker in place of records, and markers have two forms. The
+ * mode, the first parameter of the functions that read and write, says which of them is meant:
+ * - ODDRAFISK_KEYED for what brokers write: for their logs, and for what consumers fetch. The marker is a record whose
+ *   key begins with version and type, two bytes each. It is read as any record is, and all else in it is ignored:
+ *   further bytes of the key, value, headers, deltas and attributes. The writer gives a key of four bytes, zero deltas,
+ *   a null value and no headers: 72 bytes in all. Brokers write a value of six bytes after the key; such a marker is
+ *   read, and is not canonical.
+ * - ODDRAFISK_BARE for the form of the Rust crate rskafka: version and type alone, four bytes after the fixed fields,
+ *   65 in all. The crate for Rust, the program oddrafisk and the examples have this mode unless they are told
+ *   otherwise.
+ * A control batch of the one form is refused in the mode of the other: a keyed one by ODDRAFISK_UNKNOWN_CONTROL, a bare
+ * one by ODDRAFISK_PAST_END. Batches of records are read and written alike in both modes, and the returns 1 to 7 are
+ * the same. In both a control batch needs no rows: its counts of records and headers are 0, and ODDRAFISK_NO_ROOM is
+ * never returned for it.
  */
 #ifndef ODDRAFISK_H
 #define ODDRAFISK_H
@@ -47,8 +62,11 @@ _Static_assert(sizeof(size_t) == 8, "liboddrafisk.a is for processors on which s
 extern "C" {
 #endif
 
-/* The version of this header, 0.2.0, as one number: 1.2.3 would be 1002003. */
-#define ODDRAFISK_VERSION 2000
+/* The version of this header, 0.3.0, as one number: 1.2.3 would be 1002003. */
+#define ODDRAFISK_VERSION 3000
+
+/* The modes: which form markers have. Every other number is the bare mode, so that each has an answer. */
+enum { ODDRAFISK_BARE = 0, ODDRAFISK_KEYED = 1 };
 
 /* The places of a batch's entries. */
 enum {
@@ -69,10 +87,7 @@ enum {
     ODDRAFISK_ENTRIES = 16          /* how many entries there are; those not named are 0, and are to be 0 in writing */
 };
 
-/* Kinds of a batch: of records, or a control batch with one of the two markers.
- *
- * NOT YET KAFKA'S (request C-16): a marker has the form of the Rust crate rskafka, four bare bytes. What brokers write,
- * a record whose key has version and type, is refused by ODDRAFISK_UNKNOWN_CONTROL. */
+/* Kinds of a batch: of records, or a control batch with one of the two markers. */
 enum { ODDRAFISK_KIND_RECORDS = 0, ODDRAFISK_KIND_ABORT = 1, ODDRAFISK_KIND_COMMIT = 2 };
 
 /* The places in a row of a record. */
@@ -115,7 +130,7 @@ enum {
     ODDRAFISK_BEYOND_LIMITS = 9,     /* a varint of too many bytes, or too large */
     ODDRAFISK_NEGATIVE_LENGTH = 10,  /* a length or a count that is negative and may not be */
     ODDRAFISK_KEY_NOT_UTF8 = 11,     /* the key of a header is not UTF-8 */
-    ODDRAFISK_UNKNOWN_CONTROL = 12,  /* version or type of a control batch unknown */
+    ODDRAFISK_UNKNOWN_CONTROL = 12,  /* version or type of a marker unknown; keyed, also a key null or below 4 bytes */
     ODDRAFISK_BYTES_LEFT = 13,       /* bytes left in a record, or after the last record or the marker */
     ODDRAFISK_NO_ROOM = 14           /* a table is short: ODDRAFISK_RECORDS and ODDRAFISK_HEADERS are the rows needed */
 };
@@ -142,7 +157,7 @@ enum {
  * log need begin at the place that it leads to: what stands there is judged as any bytes are, and so may be a batch
  * inside a value. Go on only where to lose or to misread batches is better than to stop, and hold the base offset of
  * what comes next to those before. */
-uint32_t oddrafisk_check(const uint8_t *bytes, size_t bytes_count, int64_t answer[ODDRAFISK_ENTRIES]);
+uint32_t oddrafisk_check(uint32_t mode, const uint8_t *bytes, size_t bytes_count, int64_t answer[ODDRAFISK_ENTRIES]);
 
 /* The same, and the rows of the batch's records and of their headers in the first rows of both tables; all else in the
  * tables is as it was, and every return but ODDRAFISK_ACCEPTED leaves them untouched. Returns ODDRAFISK_ACCEPTED or 1
@@ -150,8 +165,9 @@ uint32_t oddrafisk_check(const uint8_t *bytes, size_t bytes_count, int64_t answe
  * oddrafisk_check or ODDRAFISK_NO_ROOM asks for is lent as
  *     ODDRAFISK_RECORD_NUMBERS(answer[ODDRAFISK_RECORDS]) and ODDRAFISK_HEADER_NUMBERS(answer[ODDRAFISK_HEADERS])
  * numbers, each of sizeof(int64_t) bytes. */
-uint32_t oddrafisk_read(const uint8_t *bytes, size_t bytes_count, int64_t *records, size_t record_numbers,
-                        int64_t *headers, size_t header_numbers, int64_t answer[ODDRAFISK_ENTRIES]);
+uint32_t oddrafisk_read(uint32_t mode, const uint8_t *bytes, size_t bytes_count, int64_t *records,
+                        size_t record_numbers, int64_t *headers, size_t header_numbers,
+                        int64_t answer[ODDRAFISK_ENTRIES]);
 
 /* How many bytes the batch has when it is written: answer[0], where 0 is returned; else 20 to 23 is returned, and
  * answer[0] is 0. It has the entries of `batch`, and where its kind is of records, as many as ODDRAFISK_RECORDS says,
@@ -161,18 +177,18 @@ uint32_t oddrafisk_read(const uint8_t *bytes, size_t bytes_count, int64_t *recor
  * records, a count of them below 0, more records than rows, or in a row a span outside the source, a length that its
  * place does not allow, null with a start that is not 0, an offset delta that leaves 32 bits, a number of headers below
  * 0, or headers that do not run on or run past their table. */
-uint32_t oddrafisk_measure(const int64_t batch[ODDRAFISK_ENTRIES], int64_t codec, const int64_t *records,
+uint32_t oddrafisk_measure(uint32_t mode, const int64_t batch[ODDRAFISK_ENTRIES], int64_t codec, const int64_t *records,
                            size_t record_numbers, const int64_t *headers, size_t header_numbers, const uint8_t *source,
                            size_t source_count, int64_t answer[1]);
 
 /* Writes that batch to the start of the output, and changes no other byte of it. Returns as oddrafisk_measure does, or
  * ODDRAFISK_SHORT_OUTPUT with 0 in answer[0]; what is refused leaves the output untouched. */
-uint32_t oddrafisk_write(const int64_t batch[ODDRAFISK_ENTRIES], int64_t codec, const int64_t *records,
+uint32_t oddrafisk_write(uint32_t mode, const int64_t batch[ODDRAFISK_ENTRIES], int64_t codec, const int64_t *records,
                          size_t record_numbers, const int64_t *headers, size_t header_numbers, const uint8_t *source,
                          size_t source_count, uint8_t *output, size_t output_count, int64_t answer[1]);
 
-/* 1 where the bytes, all of them, are one batch just as oddrafisk_write gives it, else 0. */
-uint32_t oddrafisk_is_canonical(const uint8_t *bytes, size_t bytes_count);
+/* 1 where the bytes, all of them, are one batch just as oddrafisk_write gives it in that mode, else 0. */
+uint32_t oddrafisk_is_canonical(uint32_t mode, const uint8_t *bytes, size_t bytes_count);
 
 /* The time of a record with this delta, in a batch with this timestamp type, first and greatest timestamp: the first
  * and the delta added up, whichever the type. Returns 1 and the time in answer[0]; or 0, and 0 in answer[0], where

@@ -1,6 +1,7 @@
-/* Calls every function of oddrafisk.h and compares what it answers with document 01. It is C11 and C++17. Prints each
- * check that does not hold, how many were made, and as its last line `N passed, M failed`, which counts the functions
- * below that are named test_; fails where one does not pass. */
+/* Calls every function of oddrafisk.h, in each mode, and compares what it answers with document 01, and where markers
+ * are keyed with Kafka's format. It is C11 and C++17. Prints each check that does not hold, how many were made, and as
+ * its last line `N passed, M failed`, which counts the functions below that are named test_; fails where one does not
+ * pass. */
 #include "oddrafisk.h"
 
 #include <inttypes.h>
@@ -10,13 +11,17 @@
 
 static unsigned made, broken;
 
+/* The mode in which a test is run: each test in all of these. Numbers without a name are the bare mode. */
+static const uint32_t MODES[] = {ODDRAFISK_BARE, ODDRAFISK_KEYED, 2, UINT32_MAX};
+static uint32_t mode;
+
 static void expect(int holds, int line, const char *what)
 {
     made++;
     if (holds)
         return;
     broken++;
-    printf("line %d: %s\n", line, what);
+    printf("line %d, mode %" PRIu32 ": %s\n", line, mode, what);
 }
 
 #define EXPECT(holds) expect((holds), __LINE__, #holds)
@@ -93,12 +98,12 @@ static uint32_t refused(const uint8_t *bytes, size_t count, int64_t bytes_needed
     clear_tables(&t);
     fill(checked, ODDRAFISK_ENTRIES, UNTOUCHED);
     fill(read, ODDRAFISK_ENTRIES, UNTOUCHED);
-    uint32_t number = oddrafisk_check(bytes, count, checked);
-    EXPECT(oddrafisk_read(bytes, count, t.records, RECORD_ROOM, t.headers, HEADER_ROOM, read) == number);
+    uint32_t number = oddrafisk_check(mode, bytes, count, checked);
+    EXPECT(oddrafisk_read(mode, bytes, count, t.records, RECORD_ROOM, t.headers, HEADER_ROOM, read) == number);
     EXPECT(counts_only(checked, 0, 0, bytes_needed));
     EXPECT(counts_only(read, 0, 0, bytes_needed));
     EXPECT(untouched_from(&t, 0, 0));
-    EXPECT(oddrafisk_is_canonical(bytes, count) == 0);
+    EXPECT(oddrafisk_is_canonical(mode, bytes, count) == 0);
     return number;
 }
 
@@ -158,6 +163,7 @@ static void test_constants(void)
     static const int writer[] = {ODDRAFISK_CODEC_ASKED, ODDRAFISK_WRONG_ROW, ODDRAFISK_ASKED_NOT_UTF8,
                                  ODDRAFISK_TOO_LONG, ODDRAFISK_SHORT_OUTPUT};
     static const int kinds[] = {ODDRAFISK_KIND_RECORDS, ODDRAFISK_KIND_ABORT, ODDRAFISK_KIND_COMMIT};
+    static const int modes[] = {ODDRAFISK_BARE, ODDRAFISK_KEYED};
     for (size_t i = 0; i < COUNT(places); i++)
         EXPECT(places[i] == (int)i);
     for (size_t i = 0; i < COUNT(reader); i++)
@@ -166,6 +172,8 @@ static void test_constants(void)
         EXPECT(writer[i] == 20 + (int)i);
     for (size_t i = 0; i < COUNT(kinds); i++)
         EXPECT(kinds[i] == (int)i);
+    for (size_t i = 0; i < COUNT(modes); i++)
+        EXPECT(modes[i] == (int)i);
     EXPECT(ODDRAFISK_ENTRIES == 16);
 }
 
@@ -226,12 +234,12 @@ static void test_sample_read(void)
     tables t;
     int64_t answer[ODDRAFISK_ENTRIES];
     clear_tables(&t);
-    EXPECT(oddrafisk_check(SAMPLE, sizeof SAMPLE, answer) == ODDRAFISK_ACCEPTED);
+    EXPECT(oddrafisk_check(mode, SAMPLE, sizeof SAMPLE, answer) == ODDRAFISK_ACCEPTED);
     EXPECT(counts_only(answer, 0, 0, EMPTY_BYTES));
-    EXPECT(oddrafisk_read(SAMPLE, sizeof SAMPLE, t.records, RECORD_ROOM, t.headers, HEADER_ROOM, answer) == 0);
+    EXPECT(oddrafisk_read(mode, SAMPLE, sizeof SAMPLE, t.records, RECORD_ROOM, t.headers, HEADER_ROOM, answer) == 0);
     EXPECT(counts_only(answer, 0, 0, EMPTY_BYTES));
     EXPECT(untouched_from(&t, 0, 0));
-    EXPECT(oddrafisk_read(ONE, ONE_BYTES + 3, t.records, RECORD_ROOM, t.headers, HEADER_ROOM, answer) == 0);
+    EXPECT(oddrafisk_read(mode, ONE, ONE_BYTES + 3, t.records, RECORD_ROOM, t.headers, HEADER_ROOM, answer) == 0);
     EXPECT(answer[ODDRAFISK_BASE_OFFSET] == 7);
     answer[ODDRAFISK_BASE_OFFSET] = 0;
     EXPECT(counts_only(answer, 1, 0, ONE_BYTES));
@@ -249,11 +257,11 @@ static void test_sample_written(void)
     int64_t batch[ODDRAFISK_ENTRIES] = {0}, length[1] = {UNTOUCHED};
     uint8_t output[sizeof SAMPLE];
     memset(output, 0, sizeof output);
-    EXPECT(oddrafisk_write(batch, 0, row, 0, no_headers, 0, source, 0, output, sizeof output, length) == 0);
+    EXPECT(oddrafisk_write(mode, batch, 0, row, 0, no_headers, 0, source, 0, output, sizeof output, length) == 0);
     EXPECT(length[0] == EMPTY_BYTES);
     batch[ODDRAFISK_BASE_OFFSET] = 7;
     batch[ODDRAFISK_RECORDS] = 1;
-    EXPECT(oddrafisk_write(batch, 0, row, COUNT(row), no_headers, 0, source, 1, output + EMPTY_BYTES,
+    EXPECT(oddrafisk_write(mode, batch, 0, row, COUNT(row), no_headers, 0, source, 1, output + EMPTY_BYTES,
                            sizeof output - EMPTY_BYTES, length) == 0);
     EXPECT(length[0] == ONE_BYTES);
     EXPECT(memcmp(output, SAMPLE, sizeof SAMPLE) == 0);
@@ -349,14 +357,14 @@ static void test_known_read(void)
         fill(checked, ODDRAFISK_ENTRIES, UNTOUCHED);
         fill(read, ODDRAFISK_ENTRIES, UNTOUCHED);
         clear_tables(&t);
-        EXPECT(oddrafisk_check(bytes, sizeof bytes, checked) == 0);
+        EXPECT(oddrafisk_check(mode, bytes, sizeof bytes, checked) == 0);
         EXPECT(same_numbers(checked, way->entries, ODDRAFISK_ENTRIES));
-        EXPECT(oddrafisk_read(bytes, sizeof bytes, t.records, RECORD_ROOM, t.headers, HEADER_ROOM, read) == 0);
+        EXPECT(oddrafisk_read(mode, bytes, sizeof bytes, t.records, RECORD_ROOM, t.headers, HEADER_ROOM, read) == 0);
         EXPECT(same_numbers(read, way->entries, ODDRAFISK_ENTRIES));
         EXPECT(same_numbers(t.records, KNOWN_RECORDS, COUNT(KNOWN_RECORDS)));
         EXPECT(same_numbers(t.headers, KNOWN_HEADERS, COUNT(KNOWN_HEADERS)));
         EXPECT(untouched_from(&t, COUNT(KNOWN_RECORDS), COUNT(KNOWN_HEADERS)));
-        EXPECT(oddrafisk_is_canonical(bytes, KNOWN_BYTES) == 1);
+        EXPECT(oddrafisk_is_canonical(mode, bytes, KNOWN_BYTES) == 1);
     }
 }
 
@@ -370,11 +378,13 @@ static void test_known_written(void)
         int64_t measured[1] = {UNTOUCHED}, length[1] = {UNTOUCHED};
         memset(output, UNTOUCHED_BYTE, sizeof output);
         put_known(bytes, way);
-        EXPECT(oddrafisk_measure(way->entries, 0, KNOWN_ASKED_RECORDS, COUNT(KNOWN_ASKED_RECORDS), KNOWN_ASKED_HEADERS,
-                                 COUNT(KNOWN_ASKED_HEADERS), source, source_count, measured) == 0);
+        EXPECT(oddrafisk_measure(mode, way->entries, 0, KNOWN_ASKED_RECORDS, COUNT(KNOWN_ASKED_RECORDS),
+                                 KNOWN_ASKED_HEADERS, COUNT(KNOWN_ASKED_HEADERS), source, source_count,
+                                 measured) == 0);
         EXPECT(measured[0] == 166);
-        EXPECT(oddrafisk_write(way->entries, 0, KNOWN_ASKED_RECORDS, COUNT(KNOWN_ASKED_RECORDS), KNOWN_ASKED_HEADERS,
-                               COUNT(KNOWN_ASKED_HEADERS), source, source_count, output, sizeof output, length) == 0);
+        EXPECT(oddrafisk_write(mode, way->entries, 0, KNOWN_ASKED_RECORDS, COUNT(KNOWN_ASKED_RECORDS),
+                               KNOWN_ASKED_HEADERS, COUNT(KNOWN_ASKED_HEADERS), source, source_count, output,
+                               sizeof output, length) == 0);
         EXPECT(length[0] == 166);
         EXPECT(memcmp(output, bytes, KNOWN_BYTES) == 0);
         EXPECT(untouched_bytes(output + KNOWN_BYTES, sizeof output - KNOWN_BYTES));
@@ -393,7 +403,7 @@ static void test_truncated(void)
 static size_t framed(const uint8_t *bytes, size_t count)
 {
     int64_t answer[ODDRAFISK_ENTRIES];
-    uint32_t number = oddrafisk_check(bytes, count < 17 ? count : 17, answer);
+    uint32_t number = oddrafisk_check(mode, bytes, count < 17 ? count : 17, answer);
     return number == ODDRAFISK_MORE_BYTES && answer[ODDRAFISK_BYTES] > 17 ? (size_t)answer[ODDRAFISK_BYTES] : 0;
 }
 
@@ -459,17 +469,18 @@ static void test_going_on(void)
     int64_t answer[ODDRAFISK_ENTRIES];
     size_t place = 0;
     put_nesting(log);
-    EXPECT(oddrafisk_check(log, LOG_BYTES, answer) == ODDRAFISK_ACCEPTED && answer[ODDRAFISK_BYTES] == NESTING_BYTES);
+    EXPECT(oddrafisk_check(mode, log, LOG_BYTES, answer) == ODDRAFISK_ACCEPTED);
+    EXPECT(answer[ODDRAFISK_BYTES] == NESTING_BYTES);
     log[20] ^= 1;
-    EXPECT(oddrafisk_check(log, LOG_BYTES, answer) == ODDRAFISK_CHECKSUM_DIFFERS);
+    EXPECT(oddrafisk_check(mode, log, LOG_BYTES, answer) == ODDRAFISK_CHECKSUM_DIFFERS);
     EXPECT(framed(log, LOG_BYTES) == NESTING_BYTES);
-    EXPECT(oddrafisk_check(log + NESTING_BYTES, KNOWN_BYTES, answer) == ODDRAFISK_ACCEPTED);
+    EXPECT(oddrafisk_check(mode, log + NESTING_BYTES, KNOWN_BYTES, answer) == ODDRAFISK_ACCEPTED);
     EXPECT(answer[ODDRAFISK_BASE_OFFSET] == INT64_C(0x1112131415161718));
-    while (place < LOG_BYTES && oddrafisk_check(log + place, LOG_BYTES - place, answer) != ODDRAFISK_ACCEPTED)
+    while (place < LOG_BYTES && oddrafisk_check(mode, log + place, LOG_BYTES - place, answer) != ODDRAFISK_ACCEPTED)
         place++;
     EXPECT(place == NESTED && answer[ODDRAFISK_BASE_OFFSET] == 7);
     put_be(log + 8, 4, NESTED - 12);
-    EXPECT(oddrafisk_check(log, LOG_BYTES, answer) == ODDRAFISK_CHECKSUM_DIFFERS);
+    EXPECT(oddrafisk_check(mode, log, LOG_BYTES, answer) == ODDRAFISK_CHECKSUM_DIFFERS);
     EXPECT(framed(log, LOG_BYTES) == NESTED);
 }
 
@@ -481,9 +492,9 @@ static void test_damaged(void)
         memcpy(bytes, ONE, sizeof bytes);
         bytes[place] ^= 1;
         if (place < 8 || (12 <= place && place < 16))
-            EXPECT(oddrafisk_check(bytes, sizeof bytes, answer) == ODDRAFISK_ACCEPTED);
+            EXPECT(oddrafisk_check(mode, bytes, sizeof bytes, answer) == ODDRAFISK_ACCEPTED);
         else if (place < 11)
-            EXPECT(oddrafisk_check(bytes, sizeof bytes, answer) == ODDRAFISK_MORE_BYTES);
+            EXPECT(oddrafisk_check(mode, bytes, sizeof bytes, answer) == ODDRAFISK_MORE_BYTES);
         else
             EXPECT(refused(bytes, sizeof bytes, 0) == (place == 16 ? 3u : 4u));
     }
@@ -516,13 +527,13 @@ static void test_edited(void)
     }
 }
 
-/* The body of a batch that has this count. */
+/* The body of a batch that has this count, and what it is answered. */
 typedef struct {
     uint32_t number;
     uint32_t attributes;
     int32_t count;
     size_t length;
-    uint8_t bytes[17];
+    uint8_t bytes[10];
 } body;
 
 static void test_bodies(void)
@@ -537,13 +548,8 @@ static void test_bodies(void)
         {ODDRAFISK_NEGATIVE_LENGTH, 0, 1, 7, {0x0C, 0, 0, 0, 3, 1, 0}},
         {ODDRAFISK_NEGATIVE_LENGTH, 0, 1, 9, {0x10, 0, 0, 0, 1, 1, 2, 0, 1}},
         {ODDRAFISK_KEY_NOT_UTF8, 0, 1, 10, {0x12, 0, 0, 0, 1, 1, 2, 2, 0xC0, 0}},
-        {ODDRAFISK_UNKNOWN_CONTROL, 32, 1, 4, {0, 1, 0, 0}},
-        {ODDRAFISK_UNKNOWN_CONTROL, 32, 1, 4, {0, 0, 0, 2}},
-        /* a broker's marker: a record whose key has version and type, an abort */
-        {ODDRAFISK_UNKNOWN_CONTROL, 48, 1, 17, {0x20, 0, 0, 0, 8, 0, 0, 0, 0, 12, 0, 0, 0, 0, 0, 5, 0}},
         {ODDRAFISK_BYTES_LEFT, 0, 1, 8, {0xC8, 1, 0, 0, 0, 1, 1, 0}},
-        {ODDRAFISK_BYTES_LEFT, 0, 1, 8, {0x0C, 0, 0, 0, 1, 1, 0, 0}},
-        {ODDRAFISK_BYTES_LEFT, 32, 1, 5, {0}}};
+        {ODDRAFISK_BYTES_LEFT, 0, 1, 8, {0x0C, 0, 0, 0, 1, 1, 0, 0}}};
     for (size_t i = 0; i < COUNT(bodies); i++) {
         const body *b = &bodies[i];
         uint8_t bytes[EMPTY_BYTES + sizeof b->bytes];
@@ -579,10 +585,10 @@ static uint32_t write_batch(const int64_t *batch, int64_t codec, const int64_t *
 {
     int64_t measured[1] = {UNTOUCHED};
     length[0] = UNTOUCHED;
-    uint32_t number = oddrafisk_write(batch, codec, records, COUNT(RECORDS), headers, COUNT(HEADERS), SOURCE,
+    uint32_t number = oddrafisk_write(mode, batch, codec, records, COUNT(RECORDS), headers, COUNT(HEADERS), SOURCE,
                                       sizeof SOURCE, output, output_count, length);
-    uint32_t of_measure = oddrafisk_measure(batch, codec, records, COUNT(RECORDS), headers, COUNT(HEADERS), SOURCE,
-                                            sizeof SOURCE, measured);
+    uint32_t of_measure = oddrafisk_measure(mode, batch, codec, records, COUNT(RECORDS), headers, COUNT(HEADERS),
+                                            SOURCE, sizeof SOURCE, measured);
     EXPECT(of_measure == (number == ODDRAFISK_SHORT_OUTPUT ? 0 : number));
     EXPECT(number == ODDRAFISK_SHORT_OUTPUT || measured[0] == length[0]);
     return number;
@@ -606,8 +612,8 @@ static void test_reads_back(void)
     EXPECT(write_batch(BATCH, 0, RECORDS, HEADERS, output, sizeof output, length) == 0);
     EXPECT(length[0] == BATCH_BYTES);
     EXPECT(untouched_bytes(output + BATCH_BYTES, sizeof output - BATCH_BYTES));
-    EXPECT(oddrafisk_is_canonical(output, BATCH_BYTES) == 1);
-    EXPECT(oddrafisk_read(output, sizeof output, t.records, RECORD_ROOM, t.headers, HEADER_ROOM, answer) == 0);
+    EXPECT(oddrafisk_is_canonical(mode, output, BATCH_BYTES) == 1);
+    EXPECT(oddrafisk_read(mode, output, sizeof output, t.records, RECORD_ROOM, t.headers, HEADER_ROOM, answer) == 0);
     memcpy(expected, BATCH, sizeof expected);
     expected[ODDRAFISK_HEADERS] = 3;
     expected[ODDRAFISK_BYTES] = BATCH_BYTES;
@@ -635,7 +641,8 @@ static void test_no_room(void)
     for (size_t i = 0; i < COUNT(rooms); i++) {
         tables t;
         clear_tables(&t);
-        uint32_t number = oddrafisk_read(bytes, sizeof bytes, t.records, rooms[i][0], t.headers, rooms[i][1], answer);
+        uint32_t number =
+            oddrafisk_read(mode, bytes, sizeof bytes, t.records, rooms[i][0], t.headers, rooms[i][1], answer);
         if (rooms[i][2]) {
             EXPECT(number == ODDRAFISK_NO_ROOM);
             EXPECT(counts_only(answer, 2, 3, 0));
@@ -659,14 +666,15 @@ static void test_rows_asked_for(void)
         memcpy(body + i * sizeof record, record, sizeof record);
     EXPECT(put_batch(bytes, 0, ROWS, body, sizeof body) == sizeof bytes);
     clear_tables(&t);
-    EXPECT(oddrafisk_check(bytes, sizeof bytes, answer) == ODDRAFISK_ACCEPTED);
+    EXPECT(oddrafisk_check(mode, bytes, sizeof bytes, answer) == ODDRAFISK_ACCEPTED);
     EXPECT(counts_only(answer, ROWS, ROWS, ROWS_BYTES));
-    EXPECT(oddrafisk_read(bytes, sizeof bytes, t.records, ROWS, t.headers, ROWS, answer) == ODDRAFISK_NO_ROOM);
+    EXPECT(oddrafisk_read(mode, bytes, sizeof bytes, t.records, ROWS, t.headers, ROWS, answer) == ODDRAFISK_NO_ROOM);
     EXPECT(counts_only(answer, ROWS, ROWS, 0));
     EXPECT(untouched_from(&t, 0, 0));
     size_t record_numbers = ODDRAFISK_RECORD_NUMBERS(answer[ODDRAFISK_RECORDS]);
     size_t header_numbers = ODDRAFISK_HEADER_NUMBERS(answer[ODDRAFISK_HEADERS]);
-    EXPECT(oddrafisk_read(bytes, sizeof bytes, t.records, record_numbers, t.headers, header_numbers, answer) == 0);
+    EXPECT(oddrafisk_read(mode, bytes, sizeof bytes, t.records, record_numbers, t.headers, header_numbers, answer)
+           == 0);
     EXPECT(untouched_from(&t, ODDRAFISK_RECORD_NUMBERS(ROWS), ODDRAFISK_HEADER_NUMBERS(ROWS)));
     EXPECT(t.records[ODDRAFISK_RECORD_NUMBERS(3) + ODDRAFISK_RECORD_FIRST_HEADER] == 3);
     EXPECT(t.headers[ODDRAFISK_HEADER_NUMBERS(3) + ODDRAFISK_HEADER_VALUE_START] == ROWS_BYTES);
@@ -787,12 +795,12 @@ static void test_key_not_utf8(void)
     uint8_t output[OUTPUT_BYTES];
     batch[ODDRAFISK_RECORDS] = 1;
     memset(output, UNTOUCHED_BYTE, sizeof output);
-    EXPECT(oddrafisk_measure(batch, 0, record, COUNT(record), header, COUNT(header), source, 1, length)
+    EXPECT(oddrafisk_measure(mode, batch, 0, record, COUNT(record), header, COUNT(header), source, 1, length)
            == ODDRAFISK_ASKED_NOT_UTF8);
     EXPECT(length[0] == 0);
     length[0] = UNTOUCHED;
-    EXPECT(oddrafisk_write(batch, 0, record, COUNT(record), header, COUNT(header), source, 1, output, sizeof output,
-                           length) == ODDRAFISK_ASKED_NOT_UTF8);
+    EXPECT(oddrafisk_write(mode, batch, 0, record, COUNT(record), header, COUNT(header), source, 1, output,
+                           sizeof output, length) == ODDRAFISK_ASKED_NOT_UTF8);
     EXPECT(length[0] == 0);
     EXPECT(untouched_bytes(output, sizeof output));
 }
@@ -816,12 +824,12 @@ static void test_too_long(void)
     int64_t *last = records + ODDRAFISK_RECORD_NUMBERS(RECORD_COUNT - 1);
     for (int64_t over = 0; over < 2; over++) {
         last[ODDRAFISK_RECORD_VALUE_LENGTH] = LAST + over;
-        uint32_t number = oddrafisk_measure(batch, 0, records, ODDRAFISK_RECORD_NUMBERS(RECORD_COUNT), HEADERS, 0,
+        uint32_t number = oddrafisk_measure(mode, batch, 0, records, ODDRAFISK_RECORD_NUMBERS(RECORD_COUNT), HEADERS, 0,
                                             source, VALUE, length);
         EXPECT(over ? number == ODDRAFISK_TOO_LONG : number == 0);
         EXPECT(length[0] == (over ? 0 : INT64_C(2147483647) + 12));
-        number = oddrafisk_write(batch, 0, records, ODDRAFISK_RECORD_NUMBERS(RECORD_COUNT), HEADERS, 0, source, VALUE,
-                                 output, sizeof output, length);
+        number = oddrafisk_write(mode, batch, 0, records, ODDRAFISK_RECORD_NUMBERS(RECORD_COUNT), HEADERS, 0, source,
+                                 VALUE, output, sizeof output, length);
         EXPECT(over ? number == ODDRAFISK_TOO_LONG : number == ODDRAFISK_SHORT_OUTPUT);
         EXPECT(length[0] == 0 && output[0] == UNTOUCHED_BYTE);
     }
@@ -829,31 +837,177 @@ static void test_too_long(void)
     free(source);
 }
 
+/* The forms of a marker, and the bytes that a batch with it has. */
+enum { BARE_BYTES = 65, KEYED_BYTES = 72 };
+
+/* The batch that ends a transaction by this kind, as it is written in the mode; its other fields are 0. Returns how
+ * many bytes it has. */
+static size_t put_marker(uint8_t *batch, int64_t kind)
+{
+    const uint8_t type = (uint8_t)(kind - 1);
+    const uint8_t bare[] = {0, 0, 0, type}, keyed[] = {0x14, 0, 0, 0, 8, 0, 0, 0, type, 1, 0};
+    if (mode == ODDRAFISK_KEYED)
+        return put_batch(batch, 32, 1, keyed, sizeof keyed);
+    return put_batch(batch, 32, 1, bare, sizeof bare);
+}
+
 /* A marker looks at no table and at no count of records. */
 static void test_markers(void)
 {
+    const size_t marker_bytes = mode == ODDRAFISK_KEYED ? KEYED_BYTES : BARE_BYTES;
     for (int64_t kind = ODDRAFISK_KIND_ABORT; kind <= ODDRAFISK_KIND_COMMIT; kind++) {
-        enum { MARKER_BYTES = 65 };
         int64_t batch[ODDRAFISK_ENTRIES] = {0}, length[1], answer[ODDRAFISK_ENTRIES], wrong[COUNT(RECORDS)];
-        const uint8_t marker_body[4] = {0, 0, 0, (uint8_t)(kind - 1)};
-        uint8_t output[OUTPUT_BYTES], expected[MARKER_BYTES];
+        uint8_t output[OUTPUT_BYTES], expected[KEYED_BYTES];
         tables t;
         batch[ODDRAFISK_KIND] = kind;
         batch[ODDRAFISK_RECORDS] = -1;
         fill(wrong, COUNT(wrong), -9);
         clear_tables(&t);
+        memset(output, UNTOUCHED_BYTE, sizeof output);
         EXPECT(write_batch(batch, 0, wrong, wrong, output, sizeof output, length) == 0);
-        EXPECT(length[0] == MARKER_BYTES);
-        EXPECT(put_batch(expected, 32, 1, marker_body, sizeof marker_body) == MARKER_BYTES);
-        EXPECT(memcmp(output, expected, MARKER_BYTES) == 0);
-        EXPECT(oddrafisk_is_canonical(output, MARKER_BYTES) == 1);
-        EXPECT(oddrafisk_read(output, sizeof output, t.records, 0, t.headers, 0, answer) == ODDRAFISK_ACCEPTED);
+        EXPECT(length[0] == (int64_t)marker_bytes);
+        EXPECT(put_marker(expected, kind) == marker_bytes);
+        EXPECT(memcmp(output, expected, marker_bytes) == 0);
+        EXPECT(untouched_bytes(output + marker_bytes, sizeof output - marker_bytes));
+        EXPECT(oddrafisk_is_canonical(mode, output, marker_bytes) == 1);
+        for (size_t count = 0; count < marker_bytes; count++) {
+            int64_t needed = count < 12 ? 12 : count < 17 ? 17 : (int64_t)marker_bytes;
+            EXPECT(refused(output, count, needed) == ODDRAFISK_MORE_BYTES);
+        }
+        EXPECT(oddrafisk_read(mode, output, sizeof output, t.records, 0, t.headers, 0, answer) == ODDRAFISK_ACCEPTED);
         EXPECT(answer[ODDRAFISK_KIND] == kind);
         answer[ODDRAFISK_KIND] = 0;
-        EXPECT(counts_only(answer, 0, 0, MARKER_BYTES));
+        EXPECT(counts_only(answer, 0, 0, (int64_t)marker_bytes));
         EXPECT(untouched_from(&t, 0, 0));
-        expect_refused(ODDRAFISK_SHORT_OUTPUT, batch, 0, wrong, wrong, MARKER_BYTES - 1);
+        expect_refused(ODDRAFISK_SHORT_OUTPUT, batch, 0, wrong, wrong, marker_bytes - 1);
     }
+}
+
+/* What a control batch is answered in a mode: a number, and where that is 0 its kind and whether it is canonical. */
+typedef struct {
+    uint32_t number;
+    int64_t kind;
+    uint32_t canonical;
+} verdict;
+
+#define REFUSED(number) {number, 0, 0}
+#define MARKED(kind, canonical) {ODDRAFISK_ACCEPTED, ODDRAFISK_KIND_##kind, canonical}
+
+/* The body of a control batch that has this count, with what it is in the bare mode and in the keyed one. */
+typedef struct {
+    verdict bare, keyed;
+    int32_t count;
+    size_t length;
+    uint8_t bytes[17];
+} control;
+
+static const control CONTROLS[] = {
+    /* as the writer gives them */
+    {REFUSED(12), MARKED(ABORT, 1), 1, 11, {0x14, 0, 0, 0, 8, 0, 0, 0, 0, 1, 0}},
+    {REFUSED(12), MARKED(COMMIT, 1), 1, 11, {0x14, 0, 0, 0, 8, 0, 0, 0, 1, 1, 0}},
+    {MARKED(ABORT, 1), REFUSED(8), 1, 4, {0, 0, 0, 0}},
+    {MARKED(COMMIT, 1), REFUSED(8), 1, 4, {0, 0, 0, 1}},
+    /* as brokers write them, with a value of six bytes: an abort and a commit */
+    {REFUSED(12), MARKED(ABORT, 0), 1, 17, {0x20, 0, 0, 0, 8, 0, 0, 0, 0, 12, 0, 0, 0, 0, 0, 5, 0}},
+    {REFUSED(12), MARKED(COMMIT, 0), 1, 17, {0x20, 0, 0, 0, 8, 0, 0, 0, 1, 12, 0, 0, 0, 0, 0, 0, 0}},
+    /* a key of five bytes; attributes and deltas that are not 0; a header; a length in two bytes */
+    {REFUSED(12), MARKED(COMMIT, 0), 1, 12, {0x16, 0, 0, 0, 10, 0, 0, 0, 1, 0xFF, 1, 0}},
+    {REFUSED(12), MARKED(ABORT, 0), 1, 11, {0x14, 9, 3, 5, 8, 0, 0, 0, 0, 1, 0}},
+    {REFUSED(12), MARKED(COMMIT, 0), 1, 15, {0x1C, 0, 0, 0, 8, 0, 0, 0, 1, 1, 2, 2, 'a', 2, 'b'}},
+    {REFUSED(12), MARKED(ABORT, 0), 1, 12, {0x94, 0, 0, 0, 0, 8, 0, 0, 0, 0, 1, 0}},
+    /* a key that is null, empty, of three bytes, or of an unknown version or type */
+    {REFUSED(12), REFUSED(12), 1, 7, {0x0C, 0, 0, 0, 1, 1, 0}},
+    {REFUSED(12), REFUSED(12), 1, 7, {0x0C, 0, 0, 0, 0, 1, 0}},
+    {REFUSED(12), REFUSED(12), 1, 10, {0x12, 0, 0, 0, 6, 0, 0, 0, 1, 0}},
+    {REFUSED(12), REFUSED(12), 1, 11, {0x14, 0, 0, 0, 8, 0, 1, 0, 0, 1, 0}},
+    {REFUSED(12), REFUSED(12), 1, 11, {0x14, 0, 0, 0, 8, 1, 0, 0, 1, 1, 0}},
+    {REFUSED(12), REFUSED(12), 1, 11, {0x14, 0, 0, 0, 8, 0, 0, 0, 2, 1, 0}},
+    {REFUSED(12), REFUSED(12), 1, 11, {0x14, 0, 0, 0, 8, 0, 0, 1, 0, 1, 0}},
+    {REFUSED(12), REFUSED(8), 1, 4, {0, 1, 0, 0}},
+    {REFUSED(12), REFUSED(8), 1, 4, {0, 0, 0, 2}},
+    /* a null key, and a byte after the record, or a header's key that is not UTF-8 */
+    {REFUSED(12), REFUSED(13), 1, 8, {0x0C, 0, 0, 0, 1, 1, 0, 0}},
+    {REFUSED(12), REFUSED(11), 1, 11, {0x14, 0, 0, 0, 1, 1, 2, 2, 0xFF, 0, 0}},
+    /* every other fault of a record: its length below, above and beyond its limits, and a length of -2 */
+    {REFUSED(12), REFUSED(8), 1, 11, {0x12, 0, 0, 0, 8, 0, 0, 0, 0, 1, 0}},
+    {REFUSED(12), REFUSED(13), 1, 11, {0x16, 0, 0, 0, 8, 0, 0, 0, 0, 1, 0}},
+    {REFUSED(12), REFUSED(9), 1, 5, {0xFF, 0xFF, 0xFF, 0xFF, 0x10}},
+    {REFUSED(12), REFUSED(10), 1, 11, {0x14, 0, 0, 0, 8, 0, 0, 0, 0, 3, 0}},
+    /* a byte after a marker */
+    {REFUSED(12), REFUSED(13), 1, 12, {0x14, 0, 0, 0, 8, 0, 0, 0, 0, 1, 0, 0}},
+    {REFUSED(13), REFUSED(8), 1, 5, {0, 0, 0, 0, 0}},
+    /* nothing, and other counts */
+    {REFUSED(8), REFUSED(8), 1, 0, {0}},
+    {REFUSED(7), REFUSED(7), -1, 11, {0x14, 0, 0, 0, 8, 0, 0, 0, 0, 1, 0}},
+    {REFUSED(7), REFUSED(7), 0, 4, {0, 0, 0, 0}},
+    {REFUSED(7), REFUSED(7), 2, 11, {0x14, 0, 0, 0, 8, 0, 0, 0, 1, 1, 0}}};
+
+/* Expects that the control batch is accepted with these entries, with tables of no rows too, and that no row is
+ * filled. */
+static void expect_marker(const uint8_t *bytes, size_t count, const int64_t *entries)
+{
+    const size_t rooms[][2] = {{0, 0}, {RECORD_ROOM, HEADER_ROOM}};
+    int64_t answer[ODDRAFISK_ENTRIES];
+    fill(answer, ODDRAFISK_ENTRIES, UNTOUCHED);
+    EXPECT(oddrafisk_check(mode, bytes, count, answer) == ODDRAFISK_ACCEPTED);
+    EXPECT(same_numbers(answer, entries, ODDRAFISK_ENTRIES));
+    for (size_t i = 0; i < COUNT(rooms); i++) {
+        tables t;
+        clear_tables(&t);
+        fill(answer, ODDRAFISK_ENTRIES, UNTOUCHED);
+        EXPECT(oddrafisk_read(mode, bytes, count, t.records, rooms[i][0], t.headers, rooms[i][1], answer) == 0);
+        EXPECT(same_numbers(answer, entries, ODDRAFISK_ENTRIES));
+        EXPECT(untouched_from(&t, 0, 0));
+    }
+}
+
+/* The fixed fields are those of KNOWN, of which no two are alike. */
+static void test_controls(void)
+{
+    for (size_t i = 0; i < COUNT(CONTROLS); i++) {
+        const control *c = &CONTROLS[i];
+        const verdict *due = mode == ODDRAFISK_KEYED ? &c->keyed : &c->bare;
+        const known *way = &KNOWN_WAYS[i % COUNT(KNOWN_WAYS)];
+        uint8_t bytes[EMPTY_BYTES + sizeof c->bytes];
+        int64_t entries[ODDRAFISK_ENTRIES];
+        const size_t count = EMPTY_BYTES + c->length;
+        const unsigned broken_before = broken;
+        memcpy(bytes, KNOWN, EMPTY_BYTES);
+        put_be(bytes + 8, 4, (uint32_t)count - 12);
+        bytes[22] = way->attributes | 32;
+        put_be(bytes + 57, 4, (uint32_t)c->count);
+        memcpy(bytes + EMPTY_BYTES, c->bytes, c->length);
+        repair(bytes, count);
+        memcpy(entries, way->entries, sizeof entries);
+        entries[ODDRAFISK_KIND] = due->kind;
+        entries[ODDRAFISK_RECORDS] = entries[ODDRAFISK_HEADERS] = 0;
+        entries[ODDRAFISK_BYTES] = (int64_t)count;
+        if (due->number == ODDRAFISK_ACCEPTED)
+            expect_marker(bytes, count, entries);
+        else
+            EXPECT(refused(bytes, count, 0) == due->number);
+        EXPECT(oddrafisk_is_canonical(mode, bytes, count) == due->canonical);
+        if (broken > broken_before)
+            printf("control batch %zu\n", i);
+    }
+}
+
+/* The first keyed marker with all fields 0, byte by byte: its checksum was worked out apart from the library. */
+static void test_keyed_bytes(void)
+{
+    static const uint8_t bytes[KEYED_BYTES] = {
+        0x00, 0x00, 0x00, 0x00, 0x00, 0x00, 0x00, 0x00, 0x00, 0x00, 0x00, 0x3C, 0x00, 0x00, 0x00, 0x00, 0x02, 0xEC,
+        0xE5, 0x1F, 0xAE, 0x00, 0x20, 0x00, 0x00, 0x00, 0x00, 0x00, 0x00, 0x00, 0x00, 0x00, 0x00, 0x00, 0x00, 0x00,
+        0x00, 0x00, 0x00, 0x00, 0x00, 0x00, 0x00, 0x00, 0x00, 0x00, 0x00, 0x00, 0x00, 0x00, 0x00, 0x00, 0x00, 0x00,
+        0x00, 0x00, 0x00, 0x00, 0x00, 0x00, 0x01, 0x14, 0x00, 0x00, 0x00, 0x08, 0x00, 0x00, 0x00, 0x00, 0x01, 0x00};
+    int64_t batch[ODDRAFISK_ENTRIES] = {0}, length[1];
+    uint8_t output[OUTPUT_BYTES];
+    batch[ODDRAFISK_KIND] = ODDRAFISK_KIND_ABORT;
+    EXPECT(write_batch(batch, 0, RECORDS, HEADERS, output, sizeof output, length) == 0);
+    if (mode == ODDRAFISK_KEYED)
+        EXPECT(length[0] == KEYED_BYTES && memcmp(output, bytes, KEYED_BYTES) == 0);
+    else
+        EXPECT(length[0] == BARE_BYTES && refused(bytes, KEYED_BYTES, 0) == ODDRAFISK_UNKNOWN_CONTROL);
 }
 
 /* Batches that are accepted and that the writer would not give: count -1, a high attribute bit, a record attribute and
@@ -868,17 +1022,17 @@ static void test_canonical(void)
         {0, 0x8000, 1, 7, {0x0C, 0, 0, 0, 1, 1, 0}},
         {1, 0, 0, 0, {0}},
         {0, 0, -1, 0, {0}}};
-    EXPECT(oddrafisk_is_canonical(SAMPLE, EMPTY_BYTES) == 1);
-    EXPECT(oddrafisk_is_canonical(ONE, ONE_BYTES) == 1);
-    EXPECT(oddrafisk_is_canonical(ONE, ONE_BYTES + 1) == 0);
-    EXPECT(oddrafisk_is_canonical(SAMPLE, SAMPLE_BYTES) == 0);
+    EXPECT(oddrafisk_is_canonical(mode, SAMPLE, EMPTY_BYTES) == 1);
+    EXPECT(oddrafisk_is_canonical(mode, ONE, ONE_BYTES) == 1);
+    EXPECT(oddrafisk_is_canonical(mode, ONE, ONE_BYTES + 1) == 0);
+    EXPECT(oddrafisk_is_canonical(mode, SAMPLE, SAMPLE_BYTES) == 0);
     for (size_t i = 0; i < COUNT(bodies); i++) {
         const body *b = &bodies[i];
         uint8_t bytes[EMPTY_BYTES + sizeof b->bytes];
         int64_t answer[ODDRAFISK_ENTRIES];
         size_t count = put_batch(bytes, b->attributes, b->count, b->bytes, b->length);
-        EXPECT(oddrafisk_check(bytes, count, answer) == ODDRAFISK_ACCEPTED);
-        EXPECT(oddrafisk_is_canonical(bytes, count) == b->number);
+        EXPECT(oddrafisk_check(mode, bytes, count, answer) == ODDRAFISK_ACCEPTED);
+        EXPECT(oddrafisk_is_canonical(mode, bytes, count) == b->number);
     }
 }
 
@@ -933,15 +1087,16 @@ static void test_nothing_lent(void)
 {
     int64_t number = UNTOUCHED, batch[ODDRAFISK_ENTRIES] = {0}, length[1], answer[ODDRAFISK_ENTRIES];
     uint8_t byte = UNTOUCHED_BYTE;
-    EXPECT(oddrafisk_check(&byte, 0, answer) == ODDRAFISK_MORE_BYTES);
-    EXPECT(oddrafisk_read(&byte, 0, &number, 0, &number, 0, answer) == ODDRAFISK_MORE_BYTES);
+    EXPECT(oddrafisk_check(mode, &byte, 0, answer) == ODDRAFISK_MORE_BYTES);
+    EXPECT(oddrafisk_read(mode, &byte, 0, &number, 0, &number, 0, answer) == ODDRAFISK_MORE_BYTES);
     EXPECT(counts_only(answer, 0, 0, 12));
-    EXPECT(oddrafisk_read(SAMPLE, EMPTY_BYTES, &number, 0, &number, 0, answer) == ODDRAFISK_ACCEPTED);
-    EXPECT(oddrafisk_is_canonical(&byte, 0) == 0);
+    EXPECT(oddrafisk_read(mode, SAMPLE, EMPTY_BYTES, &number, 0, &number, 0, answer) == ODDRAFISK_ACCEPTED);
+    EXPECT(oddrafisk_is_canonical(mode, &byte, 0) == 0);
     EXPECT(oddrafisk_crc32c(&byte, 0) == 0);
-    EXPECT(oddrafisk_measure(batch, 0, &number, 0, &number, 0, &byte, 0, length) == 0);
+    EXPECT(oddrafisk_measure(mode, batch, 0, &number, 0, &number, 0, &byte, 0, length) == 0);
     EXPECT(length[0] == EMPTY_BYTES);
-    EXPECT(oddrafisk_write(batch, 0, &number, 0, &number, 0, SOURCE, 0, &byte, 0, length) == ODDRAFISK_SHORT_OUTPUT);
+    EXPECT(oddrafisk_write(mode, batch, 0, &number, 0, &number, 0, SOURCE, 0, &byte, 0, length)
+           == ODDRAFISK_SHORT_OUTPUT);
     EXPECT(length[0] == 0);
     EXPECT(number == UNTOUCHED && byte == UNTOUCHED_BYTE);
 }
@@ -957,17 +1112,24 @@ static const test TESTS[] = {
     TEST(constants), TEST(rows), TEST(version), TEST(words), TEST(sample_read), TEST(sample_written), TEST(known_read),
     TEST(known_written), TEST(truncated), TEST(first_17), TEST(going_on), TEST(damaged), TEST(edited), TEST(bodies),
     TEST(reads_back), TEST(no_room), TEST(rows_asked_for), TEST(codecs_and_outputs), TEST(wrong_entries),
-    TEST(wrong_records), TEST(wrong_headers), TEST(key_not_utf8), TEST(too_long), TEST(markers), TEST(canonical),
+    TEST(wrong_records), TEST(wrong_headers), TEST(key_not_utf8), TEST(too_long), TEST(markers), TEST(controls),
+    TEST(keyed_bytes), TEST(canonical),
     TEST(record_time), TEST(crc32c), TEST(nothing_lent)};
 
-/* A test passes where it makes checks and all of them hold. */
+/* A test passes where it makes checks in each mode and all of them hold. */
 int main(void)
 {
     unsigned passed = 0;
     for (size_t i = 0; i < COUNT(TESTS); i++) {
-        const unsigned made_before = made, broken_before = broken;
-        TESTS[i].run();
-        if (made > made_before && broken == broken_before)
+        const unsigned broken_before = broken;
+        int all_made = 1;
+        for (size_t j = 0; j < COUNT(MODES); j++) {
+            const unsigned made_before = made;
+            mode = MODES[j];
+            TESTS[i].run();
+            all_made = all_made && made > made_before;
+        }
+        if (all_made && broken == broken_before)
             passed++;
         else
             printf("failed: %s\n", TESTS[i].name);

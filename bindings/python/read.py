@@ -2,19 +2,25 @@
 """Prints the records of a log, a line each: offset, key and value. It calls the shared object that `bindings/install
 PREFIX` makes, by ctypes alone:
 
-    LD_LIBRARY_PATH=PREFIX/lib python3 read.py LOG
-"""
+    LD_LIBRARY_PATH=PREFIX/lib python3 read.py [bare|keyed] LOG
+
+A log of a broker is to be read as `keyed`. One without markers may be read as either; `bare` is the default."""
 import ctypes
 import sys
 
-library, size, pointer = ctypes.CDLL("liboddrafisk.so.0.2"), ctypes.c_size_t, ctypes.c_void_p
-library.oddrafisk_check.argtypes = pointer, size, pointer
-library.oddrafisk_read.argtypes = pointer, size, pointer, size, pointer, size, pointer
-assert library.oddrafisk_version() == 2000, "the library has another version"
+library, number, size, pointer = ctypes.CDLL("liboddrafisk.so.0.3"), ctypes.c_uint32, ctypes.c_size_t, ctypes.c_void_p
+library.oddrafisk_check.argtypes = number, pointer, size, pointer
+library.oddrafisk_read.argtypes = number, pointer, size, pointer, size, pointer, size, pointer
+assert library.oddrafisk_version() == 3000, "the library has another version"
 
-# The places of entries and in rows, as oddrafisk.h names them.
+# The modes, the places of entries and those in rows, as oddrafisk.h names them.
+BARE, KEYED = 0, 1
 ENTRIES, BASE_OFFSET, RECORDS, HEADERS, BYTES = 16, 0, 11, 12, 13
 RECORD_ROW, HEADER_ROW, OFFSET_DELTA, KEY_START, VALUE_START = 8, 4, 1, 2, 4
+
+
+class Stopped(Exception):
+    """Where a log cannot be read on, and by which number."""
 
 
 def table(numbers):
@@ -22,22 +28,38 @@ def table(numbers):
     return (ctypes.c_int64 * (numbers + 1))()
 
 
-def shown(start, length):
-    """A key or a value of the batch at the place, between quotes; what is not plain text in it in hex."""
-    span = log[place + start : place + start + length]
+def records_of(log, mode=BARE):
+    """The offset, the key and the value of each record of a log."""
+    place, answer = 0, table(ENTRIES)
+    while place < len(log):
+        lent = mode, ctypes.cast(log, pointer).value + place, len(log) - place
+        refused = library.oddrafisk_check(*lent, answer)
+        records, headers = table(RECORD_ROW * answer[RECORDS]), table(HEADER_ROW * answer[HEADERS])
+        refused = refused or library.oddrafisk_read(*lent, records, len(records), headers, len(headers), answer)
+        if refused:
+            raise Stopped("stopped at %d by number %d" % (place, refused))
+        for at in range(0, RECORD_ROW * answer[RECORDS], RECORD_ROW):
+            spans = (records[at + start : at + start + 2] for start in (KEY_START, VALUE_START))
+            key, value = (None if n == -1 else log[place + start : place + start + n] for start, n in spans)
+            yield answer[BASE_OFFSET] + records[at + OFFSET_DELTA], key, value
+        place += answer[BYTES]
+
+
+def shown(span):
+    """A key or a value between quotes; what is not plain text in it in hex."""
+    if span is None:
+        return "null"
     plain = (chr(byte) if 32 <= byte < 127 and byte not in b'"\\' else "\\x%02x" % byte for byte in span)
-    return "null" if length == -1 else '"%s"' % "".join(plain)
+    return '"%s"' % "".join(plain)
 
 
-log, place, answer = open(sys.argv[1], "rb").read(), 0, table(ENTRIES)
-while place < len(log):
-    lent = ctypes.cast(log, pointer).value + place, len(log) - place
-    number = library.oddrafisk_check(*lent, answer)
-    records, headers = table(RECORD_ROW * answer[RECORDS]), table(HEADER_ROW * answer[HEADERS])
-    number = number or library.oddrafisk_read(*lent, records, len(records), headers, len(headers), answer)
-    if number:
-        sys.exit("%s: stopped at %d by number %d" % (sys.argv[1], place, number))
-    for at in range(0, RECORD_ROW * answer[RECORDS], RECORD_ROW):
-        key, value = (records[at + start : at + start + 2] for start in (KEY_START, VALUE_START))
-        print(answer[BASE_OFFSET] + records[at + OFFSET_DELTA], shown(*key), shown(*value))
-    place += answer[BYTES]
+def main(name, mode):
+    try:
+        for offset, key, value in records_of(open(name, "rb").read(), mode):
+            print(offset, shown(key), shown(value))
+    except Stopped as why:
+        sys.exit("%s: %s" % (name, why))
+
+
+word, log_name = ["bare", *sys.argv[1:]][-2:]
+main(log_name, {"bare": BARE, "keyed": KEYED}[word])

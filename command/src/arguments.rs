@@ -2,6 +2,8 @@
 
 use std::ffi::{OsStr, OsString};
 
+use oddrafisk::ControlMode;
+
 use crate::name::{shown, Name};
 use crate::verbs::{Verb, VERBS};
 
@@ -16,6 +18,8 @@ pub enum Request {
 pub struct Work {
     pub verb: &'static Verb,
     pub files: Vec<Name>,
+    /// Which form the markers have.
+    pub mode: ControlMode,
     flags: Vec<&'static str>,
 }
 
@@ -27,6 +31,20 @@ impl Work {
 
 const FILES: &str = "\
 FILE - is standard input, and -- ends the options. Files may be of any size.
+";
+
+/// The option that every verb has. Its value is the word after it, or what stands after `=`.
+const CONTROL: &str = "--control";
+
+/// Its values; the first is the default.
+const MODES: [(&str, ControlMode); 2] =
+    [("bare", ControlMode::Bare), ("keyed", ControlMode::Keyed)];
+
+const MARKERS: &str = "\
+Markers, which end transactions, have two forms, and MODE says which is read. Brokers write a record
+whose key begins with the marker: read their logs with --control keyed. The default, bare, is the
+form of the Rust crate rskafka, the marker's four bytes alone. A marker of the other form is
+refused. Batches of records are the same in both. Of several --control the last counts.
 ";
 
 const STATUSES: &str = "\
@@ -43,6 +61,7 @@ examples:
   oddrafisk verify *.log
   oddrafisk list 00000000000000000000.log
   oddrafisk dump --json 00000000000000000000.log | jq .value
+  oddrafisk list --control keyed 00000000000000000000.log
 ";
 
 const VERSION: &str = concat!("oddrafisk ", env!("CARGO_PKG_VERSION"), "\n");
@@ -66,16 +85,21 @@ pub fn parse(mut arguments: impl Iterator<Item = OsString>) -> Result<Request, S
 
 fn parse_work(
     verb: &'static Verb,
-    arguments: impl Iterator<Item = OsString>,
+    mut arguments: impl Iterator<Item = OsString>,
 ) -> Result<Request, String> {
     let (mut files, mut flags, mut options_ended) = (Vec::new(), Vec::new(), false);
-    for argument in arguments {
+    let mut mode = ControlMode::default();
+    while let Some(argument) = arguments.next() {
         if options_ended || !is_option(&argument) {
             files.push(Name::new(argument));
         } else if argument == "--" {
             options_ended = true;
         } else if let Some(page) = page(&argument, || verb_help(verb)) {
             return Ok(page);
+        } else if argument == CONTROL {
+            mode = mode_of(verb, arguments.next().as_deref())?;
+        } else if let Some(word) = after_control(&argument) {
+            mode = mode_of(verb, Some(word))?;
         } else {
             flags.push(flag(verb, &argument)?);
         }
@@ -92,7 +116,31 @@ fn parse_work(
             verb.name
         ));
     }
-    Ok(Request::Work(Work { verb, files, flags }))
+    Ok(Request::Work(Work {
+        verb,
+        files,
+        mode,
+        flags,
+    }))
+}
+
+/// What stands after `--control=`.
+fn after_control(argument: &OsStr) -> Option<&OsStr> {
+    let word = argument.to_str()?.strip_prefix(CONTROL)?;
+    word.strip_prefix('=').map(OsStr::new)
+}
+
+fn mode_of(verb: &Verb, word: Option<&OsStr>) -> Result<ControlMode, String> {
+    let known = MODES
+        .into_iter()
+        .find(|(name, _)| word.is_some_and(|word| word == *name));
+    known.map(|(_, mode)| mode).ok_or_else(|| {
+        let found = word.map_or(String::new(), |word| format!(", and not {}", shown(word)));
+        format!(
+            "{0} needs bare or keyed after {CONTROL}{found}; see oddrafisk {0} --help",
+            verb.name
+        )
+    })
 }
 
 fn is_option(argument: &OsStr) -> bool {
@@ -134,7 +182,8 @@ fn program_help() -> String {
 }
 
 fn verb_help(verb: &Verb) -> String {
-    let mut options = String::new();
+    let mut options =
+        format!("  {CONTROL} MODE read markers of this form: bare, the default, or keyed\n");
     for option in verb.options {
         options += &format!("  {:14} {}\n", option.name, option.about);
     }
@@ -142,7 +191,7 @@ fn verb_help(verb: &Verb) -> String {
         "oddrafisk {0}: {1}\n\n\
          usage: oddrafisk {0} [OPTION].. FILE..\n\n\
          options:\n{options}  -h, --help     show this page\n  -V, --version  show the version\n\n\
-         {FILES}\n{2}\n{STATUSES}",
+         {FILES}\n{MARKERS}\n{2}\n{STATUSES}",
         verb.name, verb.about, verb.help
     )
 }

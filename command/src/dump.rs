@@ -33,14 +33,13 @@ its value, or an object \"batch\" with \"place\" and each field. A marker, which
 has no records: it shows here alone.
 
 Under log append the time of a record is not yet Kafka's: it is the first timestamp and the record's
-delta, where Kafka has the greatest timestamp of the batch (request C-12). Markers as brokers write
-them are not read yet and stop the dump: only the bare form of four bytes is (request C-16).
+delta, where Kafka has the greatest timestamp of the batch (request C-12).
 
 Where a log stops, all records before that place have been written.
 
 examples:
   oddrafisk dump 00000000000000000000.log
-  oddrafisk dump --fields 00000000000000000000.log | grep '^#'
+  oddrafisk dump --control keyed --fields 00000000000000000000.log | grep '^#'
   oddrafisk dump --json *.log | jq -r 'select(.key == \"session-7\") | .value'
 ",
     options: &[
@@ -60,7 +59,7 @@ examples:
 fn run(work: &Work, console: &mut Console) -> io::Result<()> {
     let several = 1 < work.files.len();
     let (json, fields) = (work.has(JSON), work.has(FIELDS));
-    let mut reader = Reader::new();
+    let mut reader = Reader::new().in_mode(work.mode);
     log::each(work, console, |log, console| {
         let file = several.then_some(log.name);
         if let (Some(name), false) = (file, json) {

@@ -19,12 +19,9 @@ is refused. The words for a stop are on standard error.
 With several files each listing has a line `FILE:` before it, and there is an empty line between
 two of them.
 
-Markers as brokers write them are refused: only the bare form of four bytes is read so far (request
-C-16).
-
 examples:
   oddrafisk list 00000000000000000000.log
-  oddrafisk list *.log | grep stop
+  oddrafisk list --control keyed *.log | grep stop
   xz -dc old.log.xz | oddrafisk list -
 ",
     options: &[],
@@ -47,8 +44,9 @@ fn run(work: &Work, console: &mut Console) -> io::Result<()> {
 
 fn list(log: &mut Log, console: &mut Console) -> Result<(), Trouble> {
     writeln!(console, "base bytes kind records headers")?;
+    let mode = log.mode;
     let ended = log.walk(|_, bytes| {
-        let outline = oddrafisk::check(bytes)?;
+        let outline = oddrafisk::check_in(mode, bytes)?;
         writeln!(
             console,
             "{} {} {} {} {}",

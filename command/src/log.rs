@@ -5,7 +5,7 @@ use std::io::{self, Read, Seek};
 use std::os::fd::AsFd;
 use std::os::unix::fs::{FileTypeExt, MetadataExt};
 
-use oddrafisk::{Kind, Marker, ReadError};
+use oddrafisk::{ControlMode, Kind, Marker, ReadError};
 
 use crate::arguments::Work;
 use crate::console::{Console, Status};
@@ -47,7 +47,7 @@ pub fn each(
     mut visit: impl FnMut(&mut Log, &mut Console) -> Result<(), Trouble>,
 ) -> io::Result<()> {
     for name in &work.files {
-        match Log::open(name, work.verb.streams) {
+        match Log::open(name, work) {
             Ok(mut log) => {
                 let ended = visit(&mut log, console);
                 settle(ended, &log, console)?;
@@ -89,15 +89,18 @@ pub fn name_of(kind: Kind) -> &'static str {
 /// A file that is gone through, batch after batch.
 pub struct Log<'n> {
     pub name: &'n Name,
+    /// Which form its markers are to have.
+    pub mode: ControlMode,
     window: Window<Source>,
 }
 
 impl<'n> Log<'n> {
     /// Opens the file and reads its beginning: a folder can be opened, and is no log.
-    fn open(name: &'n Name, streams: bool) -> io::Result<Self> {
+    fn open(name: &'n Name, work: &Work) -> io::Result<Self> {
         let mut log = Log {
             name,
-            window: Window::new(Source::open(name, streams)?),
+            mode: work.mode,
+            window: Window::new(Source::open(name, work.verb.streams)?),
         };
         log.bring()?;
         Ok(log)
@@ -171,7 +174,21 @@ impl<'n> Log<'n> {
                 let left = left.unwrap_or(self.window.bytes().len() as u64);
                 format!("the log is torn: {left} bytes are there, {needed} are needed")
             }
-            ReadError::Refused(refusal) => refusal.words().to_string(),
+            ReadError::Refused(refusal) => refusal.words().to_string() + self.hint(),
+        }
+    }
+
+    /// Said where the other mode reads the batch that is refused: then it is a marker of that form.
+    fn hint(&self) -> &'static str {
+        let (other, hint) = match self.mode {
+            ControlMode::Bare => (ControlMode::Keyed, "; --control keyed reads it"),
+            ControlMode::Keyed => (ControlMode::Bare, "; --control bare reads it"),
+        };
+        let read = |batch| oddrafisk::check_in(other, batch).is_ok();
+        if self.batch().is_some_and(read) {
+            hint
+        } else {
+            ""
         }
     }
 }

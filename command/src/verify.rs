@@ -25,13 +25,10 @@ number does not tell. Nothing after the first fault is looked at.
 Base offset and leader epoch lie outside a batch's checksum, and whether offsets run on from batch
 to batch is not looked at: `oddrafisk list` shows them.
 
-Markers as brokers write them count as a fault: only the bare form of four bytes is read so far
-(request C-16).
-
 examples:
   oddrafisk verify *.log
   oddrafisk verify -- -odd-name.log
-  ssh broker cat 00000000000000000000.log | oddrafisk verify -
+  ssh broker cat 00000000000000000000.log | oddrafisk verify --control keyed -
 ",
     options: &[],
     streams: false,
@@ -75,8 +72,9 @@ fn run(work: &Work, console: &mut Console) -> io::Result<()> {
 
 fn verify(log: &mut Log, console: &mut Console) -> Result<(), Trouble> {
     let mut sums = Sums::default();
+    let mode = log.mode;
     let ended = log.walk(|_, bytes| {
-        let outline = oddrafisk::check(bytes)?;
+        let outline = oddrafisk::check_in(mode, bytes)?;
         sums.batches += 1;
         sums.records += outline.records as u64;
         Ok(outline.bytes)

@@ -1,6 +1,7 @@
 /* Prints every answer of the library on the inputs of a file, so that two builds of it can be held to each other.
  *
- *     driver FILE              the answers
+ *     driver FILE              the answers in bare mode
+ *     driver --keyed FILE      the answers in keyed mode
  *     driver --own-order FILE  this processor's byte order, and each log's base offset taken by it
  *
  * An input is a line:
@@ -22,6 +23,8 @@
 /* What stands in lent memory before a call, and behind what is lent. */
 static const int64_t MARK = -6148914691236517206;
 enum { MARKED_BYTE = 0xAA, GUARD = 8 };
+/* The mode in which the library is asked. */
+static uint32_t mode = ODDRAFISK_BARE;
 /* A batch that is longer is measured, and asked for in an output that is too short. */
 enum { MOST_WRITTEN = 1 << 24 };
 
@@ -155,7 +158,8 @@ static void show_record(const uint8_t *bytes, const int64_t *batch, const int64_
 /* Reads with tables of just so many numbers, and says what became of the tables. */
 static uint32_t read_into(struct bytes log, struct numbers records, struct numbers headers, int64_t *answer) {
     mark_answer(answer);
-    uint64_t result = oddrafisk_read(log.at, log.count, records.at, records.count, headers.at, headers.count, answer);
+    uint64_t result =
+        oddrafisk_read(mode, log.at, log.count, records.at, records.count, headers.at, headers.count, answer);
     bool accepted = result == ODDRAFISK_ACCEPTED;
     size_t rows = accepted ? (size_t)answer[ODDRAFISK_RECORDS] : 0;
     size_t header_rows = accepted ? (size_t)answer[ODDRAFISK_HEADERS] : 0;
@@ -184,8 +188,8 @@ static struct bytes written(const int64_t *batch, int64_t codec, struct numbers 
                             struct bytes source, size_t room) {
     struct bytes output = marked_bytes(room);
     int64_t length = MARK;
-    uint64_t result = oddrafisk_write(batch, codec, records.at, records.count, headers.at, headers.count, source.at,
-                                      source.count, output.at, output.count, &length);
+    uint64_t result = oddrafisk_write(mode, batch, codec, records.at, records.count, headers.at, headers.count,
+                                      source.at, source.count, output.at, output.count, &length);
     show_answer("write", result, &length, 1);
     printf("output %s ", bytes_kept(output, (size_t)length));
     show_hex(output.at, (size_t)length);
@@ -198,8 +202,8 @@ static struct bytes written(const int64_t *batch, int64_t codec, struct numbers 
 static struct bytes show_written(const int64_t *batch, int64_t codec, struct numbers records, struct numbers headers,
                                  struct bytes source) {
     int64_t length = MARK;
-    uint64_t result = oddrafisk_measure(batch, codec, records.at, records.count, headers.at, headers.count, source.at,
-                                        source.count, &length);
+    uint64_t result = oddrafisk_measure(mode, batch, codec, records.at, records.count, headers.at, headers.count,
+                                        source.at, source.count, &length);
     show_answer("measure", result, &length, 1);
     size_t room = length < MOST_WRITTEN ? (size_t)length : MOST_WRITTEN;
     if (room > 0) free(written(batch, codec, records, headers, source, room - 1).at);
@@ -212,7 +216,7 @@ static struct bytes show_written(const int64_t *batch, int64_t codec, struct num
 static size_t show_batch(struct bytes log) {
     int64_t checked[ODDRAFISK_ENTRIES], answer[ODDRAFISK_ENTRIES];
     mark_answer(checked);
-    show_answer("check", oddrafisk_check(log.at, log.count, checked), checked, ODDRAFISK_ENTRIES);
+    show_answer("check", oddrafisk_check(mode, log.at, log.count, checked), checked, ODDRAFISK_ENTRIES);
     struct numbers records = marked_numbers(ODDRAFISK_RECORD_NUMBERS(checked[ODDRAFISK_RECORDS]));
     struct numbers headers = marked_numbers(ODDRAFISK_HEADER_NUMBERS(checked[ODDRAFISK_HEADERS]));
     size_t consumed = 0;
@@ -222,7 +226,7 @@ static size_t show_batch(struct bytes log) {
             show_record(log.at, answer, records.at + ODDRAFISK_RECORD_NUMBERS(i), headers.at);
         read_short(log, checked, 1, 0);
         read_short(log, checked, 0, 1);
-        printf("canonical %" PRIu64 "\n", (uint64_t)oddrafisk_is_canonical(log.at, consumed));
+        printf("canonical %" PRIu64 "\n", (uint64_t)oddrafisk_is_canonical(mode, log.at, consumed));
         free(show_written(answer, 0, records, headers, log).at);
     }
     free(records.at);
@@ -232,7 +236,7 @@ static size_t show_batch(struct bytes log) {
 
 static void show_log(struct bytes log) {
     printf("log %zu %" PRIu64 " %" PRIu64 "\n", log.count, (uint64_t)oddrafisk_crc32c(log.at, log.count),
-           (uint64_t)oddrafisk_is_canonical(log.at, log.count));
+           (uint64_t)oddrafisk_is_canonical(mode, log.at, log.count));
     size_t consumed;
     do {
         consumed = show_batch(log);
@@ -286,11 +290,13 @@ static void show_input(const char *line, void (*show_bytes)(struct bytes)) {
 
 int main(int count, char **words) {
     bool own_order = count == 3 && strcmp(words[1], "--own-order") == 0;
-    FILE *file = count == (own_order ? 3 : 2) ? fopen(words[count - 1], "r") : NULL;
+    bool keyed = count == 3 && strcmp(words[1], "--keyed") == 0;
+    FILE *file = count == (own_order || keyed ? 3 : 2) ? fopen(words[count - 1], "r") : NULL;
     if (file == NULL) {
-        fputs("usage: driver [--own-order] FILE\n", stderr);
+        fputs("usage: driver [--own-order | --keyed] FILE\n", stderr);
         return 2;
     }
+    if (keyed) mode = ODDRAFISK_KEYED;
     if (own_order) {
         const uint16_t one = 1;
         puts(*(const uint8_t *)&one == 1 ? "little-endian" : "big-endian");

@@ -4,8 +4,9 @@
     compare/processors/inputs.py > FILE
 
 The logs of samples/; the cases of crates/batch_vectors; every beginning of some batches, every change of one byte of
-two of them, as it is and with the checksum set right; random batches to write; random bytes; times at every limit. What
-is expected does not stand here: the processors are held to each other, and the library to document 01 elsewhere."""
+three of them, as it is and with the checksum set right; random batches to write; random bytes; times at every limit.
+What is expected does not stand here: the processors are held to each other, and the library to document 01 elsewhere.
+"""
 import pathlib
 import random
 import struct
@@ -19,6 +20,10 @@ RANDOM_BATCHES = 6000
 SEED = 20
 # One batch of pinning.log with a header, and a marker: few bytes, every kind of field.
 CHANGED_BATCHES = (3, 5)
+# A commit as brokers write it: version and type in the key of a record, and a value of six bytes.
+KEYED_MARKER = bytes.fromhex(
+    "0000000000000009 00000042 00000003 02 00000000 0030 00000000 0000018bcfe56800 0000018bcfe56801"
+    "0000000000002329 0004 ffffffff 00000001 20 00 00 00 08 00000001 0c 000000000005 00")
 CRC_TABLE = []
 for byte in range(256):
     for _ in range(8):
@@ -66,7 +71,9 @@ def unhexed(text):
 
 
 def vector(line):
-    """A case of crates/batch_vectors, whose first lines say what its words are."""
+    """A case of crates/batch_vectors, whose first lines say what its words are. Here each is run in both modes."""
+    for mode in "bare ", "keyed ":
+        line = line.removeprefix(mode)
     kind, *words = line.split(" ")
     if kind in ("batch", "cuts", "canonical"):
         log(unhexed(words[0]))
@@ -124,12 +131,13 @@ def long_numbers(batch):
 
 def damage():
     batches = list(batches_of((TOP / "samples/pinning.log").read_bytes()))
-    for batch in batches:
+    keyed = repaired(KEYED_MARKER)
+    for batch in *batches, keyed:
         beginnings(batch)
         shortened(batch)
         long_numbers(batch)
-    for chosen in CHANGED_BATCHES:
-        changes(batches[chosen])
+    for batch in *(batches[chosen] for chosen in CHANGED_BATCHES), keyed:
+        changes(batch)
 
 
 # ---- random

@@ -4,9 +4,10 @@ from collections import namedtuple
 
 # The fields are named and ordered as the entries of bindings/c/oddrafisk.h.
 Batch = namedtuple("Batch", "base_offset partition_leader_epoch last_offset_delta first_timestamp max_timestamp"
-                            " producer_id producer_epoch base_sequence timestamp_type is_transactional records")
+                            " producer_id producer_epoch base_sequence timestamp_type is_transactional kind records")
 Record = namedtuple("Record", "offset time key value headers")
 CREATE_TIME = 0
+RECORDS, ABORT, COMMIT = range(3)
 BATCH_LENGTH_AT, BEFORE_LENGTH = 8, 12
 
 
@@ -30,8 +31,8 @@ def record_line(base_offset, record):
 
 
 def lines(batch, size):
-    """What compare/processors/driver.c prints of a batch of records that is accepted, and of its records."""
+    """What compare/processors/driver.c prints of a batch that is accepted, and of its records."""
     headers = sum(len(record.headers) for record in batch.records)
-    entries = (*batch[:-1], 0, len(batch.records), headers, size, 0, 0)
+    entries = (*batch[:-1], len(batch.records), headers, size, 0, 0)
     return [" ".join(["read 0", *map(str, entries)])] + [
         record_line(batch.base_offset, record) for record in batch.records]

@@ -2,7 +2,7 @@
 back, and random ones. No time is 0, which librdkafka takes for the present."""
 import random
 
-from batches import Batch, CREATE_TIME, Record
+from batches import Batch, CREATE_TIME, Record, RECORDS
 
 NOW = 1_700_000_000_000
 SEED = 7
@@ -12,7 +12,13 @@ HEADERS = ([("trace", b"1")], [("", b"")], [("é€𐍈", b"\x00\xff")], [("h%d"
 
 def batch(records, producer=(-1, -1, -1), transactional=0):
     times = [record.time for record in records]
-    return Batch(0, 0, records[-1].offset, times[0], max(times), *producer, CREATE_TIME, transactional, records)
+    return Batch(0, 0, records[-1].offset, times[0], max(times), *producer, CREATE_TIME, transactional, RECORDS,
+                 records)
+
+
+def marker(kind, offset, producer=(7, 1)):
+    """What ends the transaction of that producer. It has no number of its own among a producer's records."""
+    return Batch(offset, 3, 0, NOW + 5, NOW + 5, *producer, -1, CREATE_TIME, 1, kind, [])
 
 
 def plain(count):

@@ -21,11 +21,18 @@ TOP = pathlib.Path(__file__).resolve().parent.parent.parent
 sys.path.append(str(TOP / "tools"))
 from verdict import end
 
-UNKNOWN_MAGIC, COMPRESSED, NEGATIVE_LENGTH, UNKNOWN_MARKER = 3, 6, 10, 12
-# An abort marker by sarama 1.22.1, in the form that brokers write: version and type stand in the key of a record.
-BROKERS_MARKER = bytes.fromhex(
+MORE_BYTES, UNKNOWN_MAGIC, COMPRESSED, NEGATIVE_LENGTH, UNKNOWN_MARKER = 1, 3, 6, 10, 12
+# An abort and a commit by sarama 1.22.1, in the form that brokers write: version and type stand in the key of a record,
+# whose value has six bytes.
+BROKERS_MARKERS = bytes.fromhex(
     "0000000000000000 00000042 00000000 02 37473112 0030 00000000 0000018bcfe56800 0000018bcfe56801"
-    "0000000000002329 0000 ffffffff 00000001 20 00 00 00 08 00000000 0c 000000000005 00")
+    "0000000000002329 0000 ffffffff 00000001 20 00 00 00 08 00000000 0c 000000000005 00"
+    "0000000000000001 00000042 00000000 02 c379e75a 0030 00000000 0000018bcfe56800 0000018bcfe56801"
+    "0000000000002329 0000 ffffffff 00000001 20 00 00 00 08 00000001 0c 000000000005 00")
+BROKERS_LINES = [
+    "read 0 0 0 0 1700000000000 1700000000001 9001 0 -1 0 1 1 0 0 78 0 0",
+    "read 0 1 0 0 1700000000000 1700000000001 9001 0 -1 0 1 2 0 0 78 0 0",
+]
 # What python3-kafka does not tell of samples/pinning.log, worked out from its bytes and kept by the base offset: the
 # lines of the two markers, the first a commit, and the times of the records of a batch whose broker has set the time.
 # Document 01 takes the producer's: the first timestamp is 1731658460100, the deltas are 0, 210 and 480.
@@ -204,6 +211,63 @@ def by_librdkafka(readers):
         len(written), len(due)))
 
 
+def brokers_markers(readers):
+    """Markers as brokers write them are read in keyed mode. They are not canonical: the library writes no value."""
+    name = "sarama's markers in keyed mode"
+    markers = list(batches.split(BROKERS_MARKERS))
+    with readers.tests.named(name + ", read by python3-kafka"):
+        read = [python_kafka.read_marker(data) for data in markers]
+        hold([line for batch, _ in read for line in batches.lines(batch, 78)], BROKERS_LINES)
+    with readers.tests.named(name + ", read by the library"):
+        written = b"".join(readers.library.write(batch, ours.KEYED) for batch, _ in read)
+        hold(readers.library.read(BROKERS_MARKERS, ours.KEYED), ours.Reading(BROKERS_LINES, 0, written, MORE_BYTES))
+    print("%s: %d, read alike by the library, python3-kafka; none is canonical" % (name, len(markers)))
+
+
+def keyed_markers(readers):
+    """What the library writes in keyed mode is one record to python3-kafka, with the four bytes as its key."""
+    name = "markers written by the library in keyed mode"
+    chosen = [cases.marker(kind, 2 ** 40 + kind) for kind in (batches.ABORT, batches.COMMIT)]
+    with readers.tests.named(name + ", read by python3-kafka"):
+        written = [readers.library.write(batch, ours.KEYED) for batch in chosen]
+        for batch, data in zip(chosen, written, strict=True):
+            key = {kind: key for key, kind in python_kafka.KINDS.items()}[batch.kind]
+            record = batches.Record(batch.base_offset, batch.first_timestamp, key, None, [])
+            hold(python_kafka.read_marker(data), (batch, record))
+    with readers.tests.named(name + ", read by the library, canonical"):
+        log, lines = b"".join(written), [line for batch in chosen for line in batches.lines(batch, 72)]
+        hold(readers.library.read(log, ours.KEYED), ours.Reading(lines, len(chosen), log, MORE_BYTES))
+    print("%s: %d, read alike by the library, python3-kafka: control batches of one record" % (name, len(chosen)))
+
+
+def transactions(readers):
+    """Transactions, each ended by a marker in keyed mode, with further records after the last of them. The cluster
+    names no transaction that was aborted, so the consumer reads the records of that one, too."""
+    records = cases.batch(cases.plain(3), producer=(7, 1, 40), transactional=1)
+    commit, abort = (cases.marker(kind, 0) for kind in (batches.COMMIT, batches.ABORT))
+    put = [records, commit, records._replace(base_sequence=43), commit, records._replace(base_sequence=46), abort,
+           cases.batch(cases.plain(2))]
+    due, log, lines = [], b"", []
+    with readers.tests.named("keyed markers between transactions, passed over by librdkafka"):
+        cluster = librdkafka.Cluster()
+        at = 0
+        for batch in put:
+            data = readers.library.write(batch, ours.KEYED)
+            cluster.put(data)
+            # The cluster gives each batch its offset, which the checksum leaves out.
+            log += at.to_bytes(8, "big") + data[8:]
+            moved = [record._replace(offset=at + record.offset) for record in batch.records]
+            due += moved
+            lines += batches.lines(batch._replace(base_offset=at, records=moved), len(data))
+            at += max(1, len(moved))
+        hold(cluster.consume(len(due)), due)
+    with readers.tests.named("keyed markers between transactions, read by the library"):
+        hold([cluster.fetch()], [log])
+        hold(readers.library.read(log, ours.KEYED), ours.Reading(lines, len(put), log, MORE_BYTES))
+    print("keyed markers between transactions: librdkafka's consumer passes over %d and reads %d records; the library"
+          " reads all %d batches in keyed mode" % (len(put) - sum(1 for b in put if b.records), len(due), len(put)))
+
+
 def refused(readers):
     """What real producers make, too, and document 01 leaves out."""
     record, = cases.plain(1)
@@ -214,8 +278,9 @@ def refused(readers):
         "python3-kafka's null header value": (python_kafka.made(cases.batch([without_value])), NEGATIVE_LENGTH),
         "its gzip": (python_kafka.made(cases.batch(cases.plain(100)), python_kafka.GZIP), COMPRESSED),
         "its magic 1": (bytes(old.build()), UNKNOWN_MAGIC),
-        "sarama's marker": (BROKERS_MARKER, UNKNOWN_MARKER),
     }
+    for kind, data in zip(("abort", "commit"), batches.split(BROKERS_MARKERS), strict=True):
+        made["sarama's %s in bare mode" % kind] = data, UNKNOWN_MARKER
     for name, (data, number) in made.items():
         with readers.tests.named("refused, " + name):
             hold(readers.library.read(data), ours.Reading([], 0, b"", number))
@@ -232,6 +297,9 @@ def main():
         (from_librdkafka, "made by librdkafka, idempotent", True),
         (from_library,),
         (by_librdkafka,),
+        (brokers_markers,),
+        (keyed_markers,),
+        (transactions,),
         (refused,),
     ):
         with contextlib.suppress(Ended):

@@ -66,7 +66,7 @@ class Cluster:
 
     def consume(self, count):
         consumer = Consumer({"bootstrap.servers": "%s:%d" % self.address, "group.id": "compare", "log_level": 0,
-                             "check.crcs": True, "auto.offset.reset": "error"})
+                             "check.crcs": True, "auto.offset.reset": "error", "isolation.level": "read_committed"})
         consumer.assign([TopicPartition(TOPIC, PARTITION, 0)])
         records = []
         while len(records) < count:

@@ -11,17 +11,19 @@ TOP = pathlib.Path(__file__).resolve().parent.parent.parent
 Reading = namedtuple("Reading", "lines canonical written number")
 LIST_MOST = 65536
 KINDS = ("records", "abort", "commit")
+# The words by which the driver is told the mode.
+BARE, KEYED = (), ("--keyed",)
 
 
 def run(words, data=b""):
     return subprocess.run(words, input=data, stdout=subprocess.PIPE, check=True).stdout.decode()
 
 
-def with_file(command, data):
+def with_file(words, data):
     with tempfile.NamedTemporaryFile() as file:
         file.write(data)
         file.flush()
-        return run([command, file.name]).splitlines()
+        return run([*words, file.name]).splitlines()
 
 
 def accepted(printed):
@@ -39,15 +41,15 @@ class Library:
     def __init__(self, driver):
         self.driver = driver
 
-    def answers(self, text):
-        return with_file(self.driver, text.encode())
+    def answers(self, text, mode):
+        return with_file([self.driver, *mode], text.encode())
 
-    def read(self, log):
-        printed = self.answers("log %s\n" % log.hex().upper())
+    def read(self, log, mode=BARE):
+        printed = self.answers("log %s\n" % log.hex().upper(), mode)
         numbers = [line.split()[1] for line in printed if line.startswith("check ")]
         return Reading(accepted(printed), printed.count("canonical 1"), b"".join(written(printed)), int(numbers[-1]))
 
-    def write(self, batch):
+    def write(self, batch, mode=BARE):
         source, records, headers = b"", [], []
 
         def row(data):
@@ -62,9 +64,9 @@ class Library:
                         *row(record.value), len(headers) // 4, len(record.headers))
             for key, value in record.headers:
                 headers += *row(key.encode()), *row(value)
-        numbers = ((0, *batch[:-1], 0, len(batch.records), 0, 0, 0, 0), records, headers)
+        numbers = ((0, *batch[:-1], len(batch.records), 0, 0, 0, 0), records, headers)
         text = "|".join(" ".join(map(str, part)) for part in numbers)
-        return written(self.answers("write %s|%s\n" % (text, source.hex().upper())))[0]
+        return written(self.answers("write %s|%s\n" % (text, source.hex().upper()), mode))[0]
 
 
 class Rust:
@@ -72,7 +74,7 @@ class Rust:
         self.program = program
 
     def read(self, log):
-        return accepted(with_file(self.program, log))
+        return accepted(with_file([self.program], log))
 
 
 class Listing:

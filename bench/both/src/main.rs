@@ -74,5 +74,5 @@ fn is_canonical(bytes: &[u8], output: &mut Vec<u8>) -> bool {
 }
 
 fn main() {
-    driver::run(&[&Oddrafisk, &Rskafka]);
+    driver::run(&[&Oddrafisk::of_environment(), &Rskafka]);
 }

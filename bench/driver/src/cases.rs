@@ -98,7 +98,9 @@ impl Asked {
         let mut output = vec![0; most];
         let mut answer = [0];
         let Self { entries, codec, tables, source } = self;
-        let number = oddrafisk::write(entries, *codec, tables, source, &mut output, &mut answer);
+        let mode = oddrafisk::BARE;
+        let number =
+            oddrafisk::write(mode, entries, *codec, tables, source, &mut output, &mut answer);
         assert_eq!(number, oddrafisk::ACCEPTED, "a case cannot be written");
         output.truncate(answer[0] as usize);
         output

@@ -3,7 +3,7 @@
 use oddrafisk_sys::{self as sys, Entries};
 
 pub use oddrafisk_sys::{
-    check, crc32c, ACCEPTED, BYTES, ENTRIES, HEADER_ROW, KIND, RECORDS, RECORD_ROW,
+    check, crc32c, ACCEPTED, BARE, BYTES, ENTRIES, HEADER_ROW, KEYED, KIND, RECORDS, RECORD_ROW,
 };
 
 /// Both tables, of records and of headers.
@@ -13,11 +13,12 @@ pub struct Tables {
     pub headers: Vec<i64>,
 }
 
-pub fn read(bytes: &[u8], tables: &mut Tables, answer: &mut Entries) -> u32 {
-    sys::read(bytes, &mut tables.records, &mut tables.headers, answer)
+pub fn read(mode: u32, bytes: &[u8], tables: &mut Tables, answer: &mut Entries) -> u32 {
+    sys::read(mode, bytes, &mut tables.records, &mut tables.headers, answer)
 }
 
 pub fn write(
+    mode: u32,
     batch: &Entries,
     codec: i64,
     tables: &Tables,
@@ -25,9 +26,9 @@ pub fn write(
     output: &mut [u8],
     answer: &mut [i64; 1],
 ) -> u32 {
-    sys::write(batch, codec, &tables.records, &tables.headers, source, output, answer)
+    sys::write(mode, batch, codec, &tables.records, &tables.headers, source, output, answer)
 }
 
-pub fn is_canonical(bytes: &[u8]) -> bool {
-    sys::is_canonical(bytes) == 1
+pub fn is_canonical(mode: u32, bytes: &[u8]) -> bool {
+    sys::is_canonical(mode, bytes) == 1
 }

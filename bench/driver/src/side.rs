@@ -58,7 +58,23 @@ pub fn repeat<'a, T>(mut step: impl FnMut() -> T + 'a) -> Runner<'a> {
     })
 }
 
-pub struct Oddrafisk;
+/// Oddrafisk in a mode. No case has a marker, so that both modes give the same.
+pub struct Oddrafisk {
+    pub mode: u32,
+}
+
+impl Oddrafisk {
+    /// In the mode that the environment names: ODDRAFISK_BENCH_CONTROL=keyed, or bare, the default.
+    pub fn of_environment() -> Self {
+        const VARIABLE: &str = "ODDRAFISK_BENCH_CONTROL";
+        let mode = match std::env::var(VARIABLE).as_deref() {
+            Ok("keyed") => oddrafisk::KEYED,
+            Ok("bare") | Err(std::env::VarError::NotPresent) => oddrafisk::BARE,
+            word => panic!("{VARIABLE} is bare or keyed, and not {word:?}"),
+        };
+        Self { mode }
+    }
+}
 
 impl Side for Oddrafisk {
     fn name(&self) -> &'static str {
@@ -66,38 +82,40 @@ impl Side for Oddrafisk {
     }
 
     fn runner<'a>(&self, operation: Operation, case: &'a Case) -> Option<Runner<'a>> {
-        let bytes = &case.bytes[..];
+        let (mode, bytes) = (self.mode, &case.bytes[..]);
         Some(match operation {
             Operation::Check => {
                 let mut answer = [0; ENTRIES];
-                repeat(move || oddrafisk::check(black_box(bytes), &mut answer))
+                repeat(move || oddrafisk::check(mode, black_box(bytes), &mut answer))
             }
             Operation::Read => {
                 let mut tables = case.tables();
                 let mut answer = [0; ENTRIES];
-                repeat(move || oddrafisk::read(black_box(bytes), &mut tables, &mut answer))
+                repeat(move || oddrafisk::read(mode, black_box(bytes), &mut tables, &mut answer))
             }
             Operation::Write => {
                 let (asked, _) = case.asked.as_ref()?;
                 let mut output = vec![0; bytes.len()];
-                repeat(move || write(black_box(asked), &mut output))
+                repeat(move || write(mode, black_box(asked), &mut output))
             }
-            Operation::Canonical => repeat(move || oddrafisk::is_canonical(black_box(bytes))),
+            Operation::Canonical => repeat(move || oddrafisk::is_canonical(mode, black_box(bytes))),
         })
     }
 
     fn outcome(&self, operation: Operation, case: &Case) -> Option<Outcome> {
         match operation {
             Operation::Check => None,
-            Operation::Read => Some(Outcome::Read(read(case))),
+            Operation::Read => Some(Outcome::Read(read(self.mode, case))),
             Operation::Write => {
                 let (asked, expected) = case.asked.as_ref()?;
                 let mut output = vec![0; case.bytes.len()];
-                let number = write(asked, &mut output);
+                let number = write(self.mode, asked, &mut output);
                 assert_eq!(number, *expected, "write, {}", case.name);
                 Some(Outcome::Written((number == oddrafisk::ACCEPTED).then_some(output)))
             }
-            Operation::Canonical => Some(Outcome::Verdict(oddrafisk::is_canonical(&case.bytes))),
+            Operation::Canonical => {
+                Some(Outcome::Verdict(oddrafisk::is_canonical(self.mode, &case.bytes)))
+            }
         }
     }
 
@@ -106,16 +124,16 @@ impl Side for Oddrafisk {
     }
 }
 
-fn read(case: &Case) -> Option<Batch> {
+fn read(mode: u32, case: &Case) -> Option<Batch> {
     let mut tables = case.tables();
     let mut answer = [0; ENTRIES];
-    let number = oddrafisk::read(&case.bytes, &mut tables, &mut answer);
+    let number = oddrafisk::read(mode, &case.bytes, &mut tables, &mut answer);
     assert_eq!(number, case.reads_as, "read, {}", case.name);
     let count = answer[RECORDS] as usize;
     (number == oddrafisk::ACCEPTED).then(|| Batch::from_rows(&answer, count, &tables, &case.bytes))
 }
 
-fn write(asked: &Asked, output: &mut [u8]) -> u32 {
+fn write(mode: u32, asked: &Asked, output: &mut [u8]) -> u32 {
     let Asked { entries, codec, tables, source } = asked;
-    oddrafisk::write(entries, *codec, tables, source, output, &mut [0])
+    oddrafisk::write(mode, entries, *codec, tables, source, output, &mut [0])
 }

@@ -79,7 +79,8 @@ fn by_functions(log: &[u8]) -> usize {
     let (mut place, mut bytes) = (0, 0);
     while place < log.len() {
         let batch = &log[place..];
-        let number = sys::read(batch, &mut tables.records, &mut tables.headers, &mut answer);
+        let number =
+            sys::read(sys::BARE, batch, &mut tables.records, &mut tables.headers, &mut answer);
         assert_eq!(number, sys::ACCEPTED, "the log is all right");
         for row in tables.records.chunks_exact(RECORD_ROW).take(answer[RECORDS] as usize) {
             bytes +=
@@ -104,7 +105,8 @@ fn check(log: &[u8]) -> usize {
     let mut answer = [0; ENTRIES];
     let (mut place, mut batches) = (0, 0);
     while place < log.len() {
-        assert_eq!(sys::check(&log[place..], &mut answer), sys::ACCEPTED, "the log is all right");
+        let number = sys::check(sys::BARE, &log[place..], &mut answer);
+        assert_eq!(number, sys::ACCEPTED, "the log is all right");
         place += answer[BYTES] as usize;
         batches += 1;
     }

@@ -22,12 +22,42 @@ pub enum TimestampType {
     LogAppendTime = 1,
 }
 
-/// How a transaction ends.
+/// Which form the markers have that end transactions: they are read and written in one form or the
+/// other, and a marker of the one is refused where the other is asked for.
 ///
-/// The four bytes of a control batch are read and written as the Rust crate rskafka has them.
-/// Brokers put them into the key of a record, and such a batch is refused by
-/// [`UnknownControl`](crate::Refusal::UnknownControl): brokers' own markers are not read yet
-/// (request C-16).
+/// Whatever takes no mode has the default, which is [`Bare`](ControlMode::Bare): logs of brokers are
+/// to be read with [`Keyed`](ControlMode::Keyed). Batches of records are the same in both.
+///
+/// ```
+/// use oddrafisk::{check, check_in, ControlMode, Fields, Kind, Marker, Refusal};
+///
+/// let bytes = Marker::Commit.in_mode(ControlMode::Keyed).to_vec(&Fields::default());
+/// let outline = check_in(ControlMode::Keyed, &bytes)?;
+/// assert_eq!((outline.kind, outline.bytes), (Kind::Marker(Marker::Commit), 72));
+/// assert_eq!(check(&bytes), Err(Refusal::UnknownControl.into()));
+/// # Ok::<(), oddrafisk::ReadError>(())
+/// ```
+#[derive(Debug, Clone, Copy, PartialEq, Eq, Hash, Default)]
+pub enum ControlMode {
+    /// Version and type alone, four bytes after the fixed fields, as the Rust crate rskafka has it.
+    #[default]
+    Bare,
+    /// A record whose key begins with version and type, as brokers write it. What else is in that
+    /// record is ignored. It is written without anything else; the value of six bytes that brokers
+    /// put after the key is read, and makes a marker that is not canonical.
+    Keyed,
+}
+
+impl ControlMode {
+    pub(crate) fn number(self) -> u32 {
+        match self {
+            ControlMode::Bare => sys::BARE,
+            ControlMode::Keyed => sys::KEYED,
+        }
+    }
+}
+
+/// How a transaction ends. [`ControlMode`] says in which form that stands in the bytes.
 ///
 /// ```
 /// use oddrafisk::{Batch, Fields, Kind, Marker};

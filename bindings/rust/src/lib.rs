@@ -11,11 +11,13 @@ mod reading;
 mod refusal;
 mod writing;
 
-pub use batch::{record_time, Batch, Fields, Header, Kind, Marker, Outline, Record, TimestampType};
+pub use batch::{
+    record_time, Batch, ControlMode, Fields, Header, Kind, Marker, Outline, Record, TimestampType,
+};
 pub use log::{Log, LogError};
-pub use reading::{check, framed, is_canonical, ReadError, Reader};
+pub use reading::{check, check_in, framed, is_canonical, is_canonical_in, ReadError, Reader};
 pub use refusal::{PushRefusal, Refusal, WriteRefusal};
-pub use writing::{BatchBuilder, NewRecord};
+pub use writing::{BatchBuilder, MarkerBuilder, NewRecord};
 
 /// CRC-32C (Castagnoli) of the bytes.
 ///

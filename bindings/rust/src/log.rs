@@ -3,7 +3,7 @@
 use core::error::Error;
 use core::fmt;
 
-use crate::{framed, Batch, ReadError, Reader};
+use crate::{framed, Batch, ControlMode, ReadError, Reader};
 
 /// The batches of a log that is held in memory, one after the other.
 ///
@@ -30,7 +30,7 @@ pub struct Log<'a> {
 }
 
 impl<'a> Log<'a> {
-    /// The log that these bytes are, from its beginning.
+    /// The log that these bytes are, from its beginning, with bare markers.
     ///
     /// Bytes that may change meanwhile, as those of a mapped file that is written, are to be copied
     /// first: [what a caller owes](crate#what-a-caller-owes).
@@ -44,6 +44,29 @@ impl<'a> Log<'a> {
             place: 0,
             stopped: false,
             reader: Reader::new(),
+        }
+    }
+
+    /// The same log, from where it is, with markers of that form. A log of a broker has keyed ones.
+    /// A log that has stopped stays so.
+    ///
+    /// ```
+    /// use oddrafisk::{BatchBuilder, ControlMode, Fields, Kind, Log, Marker};
+    ///
+    /// let mut bytes = BatchBuilder::default().to_vec().unwrap();
+    /// Marker::Commit.in_mode(ControlMode::Keyed).append_to(&Fields::default(), &mut bytes);
+    /// let log = Log::new(&bytes).in_mode(ControlMode::Keyed);
+    /// let kinds = log.map(|batch| Ok(batch?.kind())).collect::<Result<Vec<_>, _>>()?;
+    /// assert_eq!(kinds, [Kind::Records, Kind::Marker(Marker::Commit)]);
+    ///
+    /// let error = Log::new(&bytes).find_map(Result::err).unwrap();
+    /// assert_eq!((error.place, error.reason.number()), (61, 12));
+    /// # Ok::<(), oddrafisk::LogError>(())
+    /// ```
+    pub fn in_mode(self, mode: ControlMode) -> Self {
+        Log {
+            reader: self.reader.in_mode(mode),
+            ..self
         }
     }
 

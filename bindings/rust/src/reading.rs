@@ -7,7 +7,7 @@ use core::fmt;
 
 use oddrafisk_sys::{self as sys, Entries, HeaderRow, RecordRow};
 
-use crate::{Batch, Outline, Refusal};
+use crate::{Batch, ControlMode, Outline, Refusal};
 
 /// Why no batch was read.
 ///
@@ -66,7 +66,7 @@ impl fmt::Display for ReadError {
 
 impl Error for ReadError {}
 
-/// What the bytes begin with, without its records.
+/// What the bytes begin with, without its records, where markers are bare.
 ///
 /// Bytes that may change meanwhile, as those of a mapped file that is written, are to be copied
 /// first: [what a caller owes](crate#what-a-caller-owes).
@@ -78,13 +78,28 @@ impl Error for ReadError {}
 /// # Ok::<(), Box<dyn std::error::Error>>(())
 /// ```
 pub fn check(bytes: &[u8]) -> Result<Outline, ReadError> {
+    check_in(ControlMode::default(), bytes)
+}
+
+/// The same as [`check`] in a mode: where markers have that form.
+///
+/// ```
+/// use oddrafisk::{check_in, BatchBuilder, ControlMode};
+///
+/// let bytes = BatchBuilder::default().to_vec()?;
+/// for mode in [ControlMode::Bare, ControlMode::Keyed] {
+///     assert_eq!(check_in(mode, &bytes)?.bytes, 61);
+/// }
+/// # Ok::<(), Box<dyn std::error::Error>>(())
+/// ```
+pub fn check_in(mode: ControlMode, bytes: &[u8]) -> Result<Outline, ReadError> {
     let mut entries = [0; sys::ENTRIES];
-    let number = sys::check(bytes, &mut entries);
+    let number = sys::check(mode.number(), bytes, &mut entries);
     outline(number, &entries)
 }
 
 /// How many bytes the batch that the bytes begin with has, by its own length: what stands after
-/// its first 17 bytes is not looked at, and need not be there.
+/// its first 17 bytes is not looked at, and need not be there. It is the same in every mode.
 ///
 /// - With fewer than 12 bytes the answer is [`MoreBytes`](ReadError::MoreBytes) and 12; with fewer
 ///   than 17, where the length is not refused, `MoreBytes` and 17.
@@ -121,7 +136,7 @@ pub fn framed(bytes: &[u8]) -> Result<usize, ReadError> {
 const FRAME: usize = 17;
 
 /// Whether the bytes, all of them, are one batch just as [`BatchBuilder`](crate::BatchBuilder)
-/// writes it.
+/// writes it, or [`Marker`](crate::Marker) in its bare form.
 ///
 /// Bytes that may change meanwhile, as those of a mapped file that is written, are to be copied
 /// first: [what a caller owes](crate#what-a-caller-owes).
@@ -134,11 +149,25 @@ const FRAME: usize = 17;
 /// # Ok::<(), oddrafisk::WriteRefusal>(())
 /// ```
 pub fn is_canonical(bytes: &[u8]) -> bool {
-    sys::is_canonical(bytes) != 0
+    is_canonical_in(ControlMode::default(), bytes)
+}
+
+/// The same as [`is_canonical`] in a mode: where markers have that form.
+///
+/// ```
+/// use oddrafisk::{is_canonical_in, ControlMode, Fields, Marker};
+///
+/// let bytes = Marker::Abort.in_mode(ControlMode::Keyed).to_vec(&Fields::default());
+/// assert!(is_canonical_in(ControlMode::Keyed, &bytes));
+/// assert!(!is_canonical_in(ControlMode::Bare, &bytes));
+/// ```
+pub fn is_canonical_in(mode: ControlMode, bytes: &[u8]) -> bool {
+    sys::is_canonical(mode.number(), bytes) != 0
 }
 
 impl<'a> Batch<'a, 'static> {
-    /// Reads the batch that the bytes begin with. What follows it is not looked at.
+    /// Reads the batch that the bytes begin with, where markers are bare; [`Reader::in_mode`] reads
+    /// it in another mode. What follows it is not looked at.
     ///
     /// Bytes that may change meanwhile, as those of a mapped file that is written, are to be copied
     /// first: [what a caller owes](crate#what-a-caller-owes).
@@ -180,12 +209,13 @@ impl<'a> Batch<'a, 'static> {
 /// ```
 #[derive(Default)]
 pub struct Reader {
+    mode: ControlMode,
     records: Vec<RecordRow>,
     headers: Vec<HeaderRow>,
 }
 
 impl Reader {
-    /// A reader whose tables are still empty.
+    /// A reader whose tables are still empty, for bare markers.
     ///
     /// ```
     /// let mut reader = oddrafisk::Reader::new();
@@ -193,6 +223,21 @@ impl Reader {
     /// ```
     pub fn new() -> Self {
         Reader::default()
+    }
+
+    /// The same reader, tables and all, for markers of that form.
+    ///
+    /// ```
+    /// use oddrafisk::{ControlMode, Fields, Kind, Marker, Reader};
+    ///
+    /// let bytes = Marker::Abort.in_mode(ControlMode::Keyed).to_vec(&Fields::default());
+    /// let mut reader = Reader::new().in_mode(ControlMode::Keyed);
+    /// assert_eq!(reader.read(&bytes)?.kind(), Kind::Marker(Marker::Abort));
+    /// assert_eq!(reader.in_mode(ControlMode::Bare).read(&bytes).unwrap_err().number(), 12);
+    /// # Ok::<(), oddrafisk::ReadError>(())
+    /// ```
+    pub fn in_mode(self, mode: ControlMode) -> Self {
+        Reader { mode, ..self }
     }
 
     /// Reads the batch that the bytes begin with. What follows it is not looked at.
@@ -234,7 +279,7 @@ impl Reader {
         let mut entries = [0; sys::ENTRIES];
         let records = self.records.as_flattened_mut();
         let headers = self.headers.as_flattened_mut();
-        let number = sys::read(bytes, records, headers, &mut entries);
+        let number = sys::read(self.mode.number(), bytes, records, headers, &mut entries);
         (number, entries)
     }
 }

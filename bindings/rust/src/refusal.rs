@@ -34,7 +34,9 @@ pub enum Refusal {
     NegativeLength = 10,
     /// The key of a header is not UTF-8.
     KeyNotUtf8 = 11,
-    /// The version or the type of a control batch is unknown.
+    /// The version or the type of a marker is unknown; where markers are keyed, the key may also be
+    /// null or shorter than the four bytes of both. What brokers write is such a one where markers
+    /// are bare: [`ControlMode`](crate::ControlMode).
     UnknownControl = 12,
     /// Bytes are left in a record, or after the last record or the marker.
     BytesLeft = 13,

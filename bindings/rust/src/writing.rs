@@ -4,7 +4,7 @@ use alloc::vec::Vec;
 
 use oddrafisk_sys::{self as sys, Entries, HeaderRow, RecordRow};
 
-use crate::{Fields, Kind, Marker, PushRefusal, TimestampType, WriteRefusal};
+use crate::{ControlMode, Fields, Kind, Marker, PushRefusal, TimestampType, WriteRefusal};
 
 /// A record to be written, with both its deltas. The default has neither key nor value nor headers,
 /// and both deltas 0: of several such records all would have the same offset.
@@ -39,7 +39,8 @@ pub struct NewRecord<'a> {
     pub headers: &'a [(&'a str, Option<&'a [u8]>)],
 }
 
-/// Puts a batch of records together and writes it.
+/// Puts a batch of records together and writes it. [`Marker`] writes the batches that end
+/// transactions.
 ///
 /// ```
 /// use oddrafisk::{BatchBuilder, Fields, Log};
@@ -61,6 +62,7 @@ pub struct NewRecord<'a> {
 pub struct BatchBuilder {
     /// The fields of the batch, written as they stand here.
     pub fields: Fields,
+    mode: ControlMode,
     records: Vec<RecordRow>,
     headers: Vec<HeaderRow>,
     source: Vec<u8>,
@@ -81,6 +83,43 @@ impl BatchBuilder {
             fields,
             ..BatchBuilder::default()
         }
+    }
+
+    /// The same batch, records and all, for a log whose markers have that form.
+    ///
+    /// A batch of records has the same bytes in every mode. A builder has one mode, whichever batch
+    /// it is at: [`clear`](BatchBuilder::clear) and [`next_batch`](BatchBuilder::next_batch) keep it,
+    /// and [`marker`](BatchBuilder::marker) writes by it. So what one builder writes to a log is read
+    /// in one mode; a log with markers of both forms is read to its end in neither.
+    ///
+    /// ```
+    /// use oddrafisk::{BatchBuilder, ControlMode};
+    ///
+    /// let mut builder = BatchBuilder::default().in_mode(ControlMode::Keyed);
+    /// let bytes = builder.push(1000, Some(b"cookie-1"), None, &[])?.to_vec()?;
+    /// assert_eq!(builder.in_mode(ControlMode::Bare).to_vec()?, bytes);
+    /// # Ok::<(), Box<dyn std::error::Error>>(())
+    /// ```
+    pub fn in_mode(self, mode: ControlMode) -> Self {
+        BatchBuilder { mode, ..self }
+    }
+
+    /// The marker in the form that this builder's log has.
+    ///
+    /// ```
+    /// use oddrafisk::{BatchBuilder, ControlMode, Fields, Log, Marker};
+    ///
+    /// let producer = Fields { producer_id: 4012, is_transactional: true, ..Fields::default() };
+    /// let mut builder = BatchBuilder::new(producer).in_mode(ControlMode::Keyed);
+    /// let mut log = Vec::new();
+    /// builder.push(1000, Some(b"cookie-1"), Some(b"server-3"), &[])?.append_to(&mut log)?;
+    /// builder.next_batch()?;
+    /// builder.marker(Marker::Commit).append_to(&builder.fields, &mut log);
+    /// assert!(Log::new(&log).in_mode(ControlMode::Keyed).all(|batch| batch.is_ok()));
+    /// # Ok::<(), Box<dyn std::error::Error>>(())
+    /// ```
+    pub fn marker(&self, marker: Marker) -> MarkerBuilder {
+        marker.in_mode(self.mode)
     }
 
     /// Adds a record, at the offset after the last and with this time, in milliseconds since 1970.
@@ -292,6 +331,7 @@ impl BatchBuilder {
 
     fn asked(&self) -> Asked<'_> {
         Asked {
+            mode: self.mode,
             entries: self.fields.to_entries(Kind::Records, self.records.len()),
             records: &self.records,
             headers: &self.headers,
@@ -348,15 +388,27 @@ impl BatchBuilder {
     }
 }
 
+/// Writing the batch that ends a transaction, in bare form; [`in_mode`](Marker::in_mode) has others.
 impl Marker {
+    /// This marker in the form that the mode has.
+    ///
+    /// ```
+    /// use oddrafisk::{ControlMode, Marker};
+    ///
+    /// assert_eq!(Marker::Commit.in_mode(ControlMode::Keyed).measure(), 72);
+    /// assert_eq!(Marker::Commit.in_mode(ControlMode::Bare).measure(), Marker::Commit.measure());
+    /// ```
+    pub fn in_mode(self, mode: ControlMode) -> MarkerBuilder {
+        MarkerBuilder { marker: self, mode }
+    }
+
     /// How many bytes the batch that ends a transaction with this marker has when it is written.
     ///
     /// ```
     /// assert_eq!(oddrafisk::Marker::Commit.measure(), 65);
     /// ```
     pub fn measure(self) -> usize {
-        let asked = self.asked(&Fields::default());
-        asked.measure().expect(NEVER_REFUSED)
+        self.bare().measure()
     }
 
     /// Writes that batch to the start of the output and returns how many bytes it has. A refusal,
@@ -373,7 +425,7 @@ impl Marker {
     /// assert_eq!(Marker::Commit.write(&fields, &mut [0; 64]), Err(WriteRefusal::ShortOutput));
     /// ```
     pub fn write(self, fields: &Fields, output: &mut [u8]) -> Result<usize, WriteRefusal> {
-        self.asked(fields).write(output)
+        self.bare().write(fields, output)
     }
 
     /// Writes that batch after what the log has, and returns how many bytes it has.
@@ -391,7 +443,7 @@ impl Marker {
     /// # Ok::<(), oddrafisk::ReadError>(())
     /// ```
     pub fn append_to(self, fields: &Fields, log: &mut Vec<u8>) -> usize {
-        self.asked(fields).append_to(log).expect(NEVER_REFUSED)
+        self.bare().append_to(fields, log)
     }
 
     /// That batch as bytes of its own.
@@ -403,12 +455,99 @@ impl Marker {
     /// assert!(oddrafisk::is_canonical(&Marker::Abort.to_vec(&fields)));
     /// ```
     pub fn to_vec(self, fields: &Fields) -> Vec<u8> {
+        self.bare().to_vec(fields)
+    }
+
+    fn bare(self) -> MarkerBuilder {
+        self.in_mode(ControlMode::default())
+    }
+}
+
+/// Writes the batch that ends a transaction with a [`Marker`] in one of its forms. It is made by
+/// [`Marker::in_mode`] or [`BatchBuilder::marker`].
+///
+/// ```
+/// use oddrafisk::{is_canonical_in, ControlMode, Fields, Marker};
+///
+/// let fields = Fields { producer_id: 4012, is_transactional: true, ..Fields::default() };
+/// let bytes = Marker::Commit.in_mode(ControlMode::Keyed).to_vec(&fields);
+/// assert_eq!(bytes[61..], [0x14, 0, 0, 0, 8, 0, 0, 0, 1, 1, 0]);
+/// assert!(is_canonical_in(ControlMode::Keyed, &bytes));
+/// ```
+#[derive(Debug, Clone, Copy, PartialEq, Eq, Hash)]
+pub struct MarkerBuilder {
+    marker: Marker,
+    mode: ControlMode,
+}
+
+impl MarkerBuilder {
+    /// The same marker in the form of another mode.
+    ///
+    /// ```
+    /// use oddrafisk::{ControlMode, Marker};
+    ///
+    /// let marker = Marker::Abort.in_mode(ControlMode::Keyed);
+    /// assert_eq!(marker.in_mode(ControlMode::Bare).measure(), 65);
+    /// ```
+    pub fn in_mode(self, mode: ControlMode) -> Self {
+        MarkerBuilder { mode, ..self }
+    }
+
+    /// As [`Marker::measure`], in its own form.
+    ///
+    /// ```
+    /// use oddrafisk::{ControlMode, Marker};
+    ///
+    /// assert_eq!(Marker::Commit.in_mode(ControlMode::Keyed).measure(), 72);
+    /// ```
+    pub fn measure(self) -> usize {
+        let asked = self.asked(&Fields::default());
+        asked.measure().expect(NEVER_REFUSED)
+    }
+
+    /// As [`Marker::write`], in its own form.
+    ///
+    /// ```
+    /// use oddrafisk::{ControlMode, Fields, Marker, WriteRefusal};
+    ///
+    /// let fields = Fields { producer_id: 4012, is_transactional: true, ..Fields::default() };
+    /// let marker = Marker::Commit.in_mode(ControlMode::Keyed);
+    /// assert_eq!(marker.write(&fields, &mut [0; 72]), Ok(72));
+    /// assert_eq!(marker.write(&fields, &mut [0; 71]), Err(WriteRefusal::ShortOutput));
+    /// ```
+    pub fn write(self, fields: &Fields, output: &mut [u8]) -> Result<usize, WriteRefusal> {
+        self.asked(fields).write(output)
+    }
+
+    /// As [`Marker::append_to`], in its own form.
+    ///
+    /// ```
+    /// use oddrafisk::{ControlMode, Fields, Marker};
+    ///
+    /// let fields = Fields { producer_id: 4012, is_transactional: true, ..Fields::default() };
+    /// let mut log = Vec::new();
+    /// assert_eq!(Marker::Commit.in_mode(ControlMode::Keyed).append_to(&fields, &mut log), 72);
+    /// ```
+    pub fn append_to(self, fields: &Fields, log: &mut Vec<u8>) -> usize {
+        self.asked(fields).append_to(log).expect(NEVER_REFUSED)
+    }
+
+    /// As [`Marker::to_vec`], in its own form.
+    ///
+    /// ```
+    /// use oddrafisk::{ControlMode, Fields, Marker};
+    ///
+    /// let fields = Fields { producer_id: 4012, is_transactional: true, ..Fields::default() };
+    /// assert_eq!(Marker::Abort.in_mode(ControlMode::Keyed).to_vec(&fields).len(), 72);
+    /// ```
+    pub fn to_vec(self, fields: &Fields) -> Vec<u8> {
         self.asked(fields).to_vec().expect(NEVER_REFUSED)
     }
 
     fn asked(self, fields: &Fields) -> Asked<'static> {
         Asked {
-            entries: fields.to_entries(Kind::Marker(self), 0),
+            mode: self.mode,
+            entries: fields.to_entries(Kind::Marker(self.marker), 0),
             records: &[],
             headers: &[],
             source: &[],
@@ -423,6 +562,7 @@ const NO_CODEC: i64 = 0;
 
 /// A batch to be written.
 struct Asked<'a> {
+    mode: ControlMode,
     entries: Entries,
     records: &'a [RecordRow],
     headers: &'a [HeaderRow],
@@ -433,6 +573,7 @@ impl Asked<'_> {
     fn measure(&self) -> Result<usize, WriteRefusal> {
         let mut answer = [0];
         let number = sys::measure(
+            self.mode.number(),
             &self.entries,
             NO_CODEC,
             self.records.as_flattened(),
@@ -446,6 +587,7 @@ impl Asked<'_> {
     fn write(&self, output: &mut [u8]) -> Result<usize, WriteRefusal> {
         let mut answer = [0];
         let number = sys::write(
+            self.mode.number(),
             &self.entries,
             NO_CODEC,
             self.records.as_flattened(),
@@ -490,6 +632,7 @@ mod tests {
         let source = vec![0; 1 << 20];
         let records = [[0, 0, 0, -1, 0, 1 << 20, 0, 0]; 2048];
         let asked = |count: usize| Asked {
+            mode: ControlMode::Bare,
             entries: Fields::default().to_entries(Kind::Records, count),
             records: &records,
             headers: &[],

@@ -5,7 +5,7 @@ use std::path::{Path, PathBuf};
 use std::process::{Command, Output};
 use std::{env, fs};
 
-use oddrafisk::{BatchBuilder, Fields, Kind, Log, Marker, NewRecord};
+use oddrafisk::{BatchBuilder, ControlMode, Fields, Kind, Log, Marker, NewRecord};
 
 fn program(name: &str) -> Command {
     let test = env::current_exe().unwrap();
@@ -302,6 +302,59 @@ fn place_in_the_log_decides_and_not_the_commit() {
         summary.contains("cookies pinned 1\ncookies withdrawn 0\nsecond 1\nend"),
         "{summary}"
     );
+}
+
+/// A log of a broker: what the markers commit is taken with `--keyed`, and stopped at without.
+#[test]
+fn markers_of_brokers_are_taken() {
+    let at = |base_offset| Fields {
+        base_offset,
+        producer_id: 7,
+        is_transactional: true,
+        ..Fields::default()
+    };
+    let mut bytes = Vec::new();
+    for (offset, server, marker) in [
+        (0, &b"aborted"[..], Marker::Abort),
+        (2, b"committed", Marker::Commit),
+    ] {
+        let mut builder = BatchBuilder::new(at(offset)).in_mode(ControlMode::Keyed);
+        builder.push(0, Some(b"cookie"), Some(server), &[]).unwrap();
+        builder.append_to(&mut bytes).unwrap();
+        let marker = builder.marker(marker);
+        marker.append_to(&at(offset + 1), &mut bytes);
+    }
+    let file = scratch("broker.log");
+    fs::write(&file, &bytes).unwrap();
+    let keyed = |options: &[&str]| {
+        let mut command = program("balancer");
+        let ended = command.arg(&file).args(options).output().unwrap();
+        (
+            String::from_utf8(ended.stdout).unwrap(),
+            ended.status.success(),
+        )
+    };
+    for options in [
+        &["--keyed"][..],
+        &["--skip", "--keyed"],
+        &["--keyed", "--skip"],
+    ] {
+        let (said, success) = keyed(options);
+        let due = "records aborted 1\nrecords undecided 0\ncookies pinned 1\ncookies withdrawn 0\n\
+                   committed 1\nend at ";
+        assert!(success && said.contains(due), "{said}");
+    }
+    let (said, success) = keyed(&[]);
+    assert!(
+        !success && said.ends_with("the control marker is unknown (number 12)\n"),
+        "{said}"
+    );
+    let ended = program("balancer")
+        .arg(&file)
+        .arg("--key")
+        .output()
+        .unwrap();
+    assert_eq!(ended.status.code(), Some(2));
 }
 
 #[test]

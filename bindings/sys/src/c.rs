@@ -1,9 +1,15 @@
 //! The functions of liboddrafisk.a, as bindings/c/oddrafisk.h declares them.
 
 extern "C" {
-    pub fn oddrafisk_check(bytes: *const u8, bytes_count: usize, answer: *mut i64) -> u32;
+    pub fn oddrafisk_check(
+        mode: u32,
+        bytes: *const u8,
+        bytes_count: usize,
+        answer: *mut i64,
+    ) -> u32;
 
     pub fn oddrafisk_read(
+        mode: u32,
         bytes: *const u8,
         bytes_count: usize,
         records: *mut i64,
@@ -14,6 +20,7 @@ extern "C" {
     ) -> u32;
 
     pub fn oddrafisk_measure(
+        mode: u32,
         batch: *const i64,
         codec: i64,
         records: *const i64,
@@ -26,6 +33,7 @@ extern "C" {
     ) -> u32;
 
     pub fn oddrafisk_write(
+        mode: u32,
         batch: *const i64,
         codec: i64,
         records: *const i64,
@@ -39,7 +47,7 @@ extern "C" {
         answer: *mut i64,
     ) -> u32;
 
-    pub fn oddrafisk_is_canonical(bytes: *const u8, bytes_count: usize) -> u32;
+    pub fn oddrafisk_is_canonical(mode: u32, bytes: *const u8, bytes_count: usize) -> u32;
 
     pub fn oddrafisk_record_time(
         timestamp_type: i64,

@@ -16,34 +16,43 @@ use crate::{c, Entries, VERSION};
 /// What the bytes begin with, by `oddrafisk_check`.
 ///
 /// ```
-/// let mut answer = [0; oddrafisk_sys::ENTRIES];
-/// assert_eq!(oddrafisk_sys::check(&[], &mut answer), oddrafisk_sys::MORE_BYTES);
-/// assert_eq!(answer[oddrafisk_sys::BYTES], 12);
+/// use oddrafisk_sys::{check, BARE, BYTES, ENTRIES, MORE_BYTES};
+///
+/// let mut answer = [0; ENTRIES];
+/// assert_eq!(check(BARE, &[], &mut answer), MORE_BYTES);
+/// assert_eq!(answer[BYTES], 12);
 /// ```
 #[inline]
-pub fn check(bytes: &[u8], answer: &mut Entries) -> u32 {
+pub fn check(mode: u32, bytes: &[u8], answer: &mut Entries) -> u32 {
     hold_version();
     // SAFETY: each is lent as what it is, and the slice with its own length.
-    unsafe { c::oddrafisk_check(bytes.as_ptr(), bytes.len(), answer.as_mut_ptr()) }
+    unsafe { c::oddrafisk_check(mode, bytes.as_ptr(), bytes.len(), answer.as_mut_ptr()) }
 }
 
 /// The same, with the rows of the records and of their headers, by `oddrafisk_read`. Tables are row
 /// after row; what is left over after the last whole row is never touched.
 ///
 /// ```
-/// use oddrafisk_sys::{read, ENTRIES, HEADER_ROW, MORE_BYTES, RECORD_ROW};
+/// use oddrafisk_sys::{read, ENTRIES, HEADER_ROW, KEYED, MORE_BYTES, RECORD_ROW};
 ///
 /// // Four rows of records and two of headers.
 /// let (mut records, mut headers) = ([0; 4 * RECORD_ROW], [0; 2 * HEADER_ROW]);
 /// let mut answer = [0; ENTRIES];
-/// assert_eq!(read(&[], &mut records, &mut headers, &mut answer), MORE_BYTES);
+/// assert_eq!(read(KEYED, &[], &mut records, &mut headers, &mut answer), MORE_BYTES);
 /// ```
 #[inline]
-pub fn read(bytes: &[u8], records: &mut [i64], headers: &mut [i64], answer: &mut Entries) -> u32 {
+pub fn read(
+    mode: u32,
+    bytes: &[u8],
+    records: &mut [i64],
+    headers: &mut [i64],
+    answer: &mut Entries,
+) -> u32 {
     hold_version();
     // SAFETY: each is lent as what it is, and each slice with its own length.
     unsafe {
         c::oddrafisk_read(
+            mode,
             bytes.as_ptr(),
             bytes.len(),
             records.as_mut_ptr(),
@@ -58,12 +67,18 @@ pub fn read(bytes: &[u8], records: &mut [i64], headers: &mut [i64], answer: &mut
 /// How many bytes a batch has when it is written, by `oddrafisk_measure`.
 ///
 /// ```
-/// let mut answer = [0];
-/// assert_eq!(oddrafisk_sys::measure(&[0; 16], 0, &[], &[], &[], &mut answer), 0);
-/// assert_eq!(answer, [61]);
+/// use oddrafisk_sys::{measure, BARE, KEYED, KIND, KIND_ABORT};
+///
+/// let (mut batch, mut answer) = ([0; 16], [0]);
+/// batch[KIND] = KIND_ABORT;
+/// assert_eq!(measure(BARE, &batch, 0, &[], &[], &[], &mut answer), 0);
+/// assert_eq!(answer, [65]);
+/// assert_eq!(measure(KEYED, &batch, 0, &[], &[], &[], &mut answer), 0);
+/// assert_eq!(answer, [72]);
 /// ```
 #[inline]
 pub fn measure(
+    mode: u32,
     batch: &Entries,
     codec: i64,
     records: &[i64],
@@ -75,6 +90,7 @@ pub fn measure(
     // SAFETY: each is lent as what it is, and each slice with its own length.
     unsafe {
         c::oddrafisk_measure(
+            mode,
             batch.as_ptr(),
             codec,
             records.as_ptr(),
@@ -91,12 +107,15 @@ pub fn measure(
 /// Writes a batch to the start of the output, by `oddrafisk_write`.
 ///
 /// ```
-/// let mut answer = [0];
-/// let mut output = [0; 60];
-/// assert_eq!(oddrafisk_sys::write(&[0; 16], 0, &[], &[], &[], &mut output, &mut answer), 24);
+/// use oddrafisk_sys::{write, BARE};
+///
+/// let (mut output, mut answer) = ([0; 60], [0]);
+/// assert_eq!(write(BARE, &[0; 16], 0, &[], &[], &[], &mut output, &mut answer), 24);
 /// ```
 #[inline]
+#[allow(clippy::too_many_arguments)]
 pub fn write(
+    mode: u32,
     batch: &Entries,
     codec: i64,
     records: &[i64],
@@ -109,6 +128,7 @@ pub fn write(
     // SAFETY: each is lent as what it is, and each slice with its own length.
     unsafe {
         c::oddrafisk_write(
+            mode,
             batch.as_ptr(),
             codec,
             records.as_ptr(),
@@ -124,17 +144,17 @@ pub fn write(
     }
 }
 
-/// 1 where the bytes, all of them, are one batch just as [`write()`] gives it, else 0, by
-/// `oddrafisk_is_canonical`.
+/// 1 where the bytes, all of them, are one batch just as [`write()`] gives it in that mode, else 0,
+/// by `oddrafisk_is_canonical`.
 ///
 /// ```
-/// assert_eq!(oddrafisk_sys::is_canonical(&[]), 0);
+/// assert_eq!(oddrafisk_sys::is_canonical(oddrafisk_sys::BARE, &[]), 0);
 /// ```
 #[inline]
-pub fn is_canonical(bytes: &[u8]) -> u32 {
+pub fn is_canonical(mode: u32, bytes: &[u8]) -> u32 {
     hold_version();
     // SAFETY: the slice is lent with its own length.
-    unsafe { c::oddrafisk_is_canonical(bytes.as_ptr(), bytes.len()) }
+    unsafe { c::oddrafisk_is_canonical(mode, bytes.as_ptr(), bytes.len()) }
 }
 
 /// 1 and the time of a record, or 0 where there is none, by `oddrafisk_record_time`.
@@ -218,7 +238,7 @@ mod tests {
     }
 
     #[test]
-    #[should_panic(expected = "has the version 1999, and oddrafisk-sys is for 2000")]
+    #[should_panic(expected = "has the version 2999, and oddrafisk-sys is for 3000")]
     fn a_stale_archive_is_found() {
         hold(VERSION - 1);
     }

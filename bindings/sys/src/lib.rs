@@ -11,9 +11,16 @@ pub use calls::{check, crc32c, is_canonical, measure, read, record_time, version
 #[cfg(not(target_pointer_width = "64"))]
 compile_error!("oddrafisk is for processors with 64-bit addresses");
 
-/// The version that this crate is made for, as [`version`] gives that of the archive: 0.2.0 is
-/// 2000.
-pub const VERSION: u32 = 2000;
+/// The version that this crate is made for, as [`version`] gives that of the archive: 0.3.0 is
+/// 3000.
+pub const VERSION: u32 = 3000;
+
+// The modes: which form the markers of control batches have. Every other number is the bare mode.
+
+/// The mode of bare markers: four bytes alone after the fixed fields.
+pub const BARE: u32 = 0;
+/// The mode of keyed markers, as brokers write them: a record whose key begins with these bytes.
+pub const KEYED: u32 = 1;
 
 // The places of a batch's entries.
 

@@ -12,19 +12,21 @@ const VARIABLE: &str = "ODDRAFISK_OTHER_VERSION";
 /// Each of them, on as little as it takes.
 const CALLS: [(&str, fn()); 7] = [
     ("check", || {
-        sys::check(&[], &mut [0; sys::ENTRIES]);
+        sys::check(sys::BARE, &[], &mut [0; sys::ENTRIES]);
     }),
     ("read", || {
-        sys::read(&[], &mut [], &mut [], &mut [0; sys::ENTRIES]);
+        sys::read(sys::BARE, &[], &mut [], &mut [], &mut [0; sys::ENTRIES]);
     }),
     ("measure", || {
-        sys::measure(&[0; sys::ENTRIES], 0, &[], &[], &[], &mut [0]);
+        let batch = [0; sys::ENTRIES];
+        sys::measure(sys::BARE, &batch, 0, &[], &[], &[], &mut [0]);
     }),
     ("write", || {
-        sys::write(&[0; sys::ENTRIES], 0, &[], &[], &[], &mut [], &mut [0]);
+        let batch = [0; sys::ENTRIES];
+        sys::write(sys::BARE, &batch, 0, &[], &[], &[], &mut [], &mut [0]);
     }),
     ("is_canonical", || {
-        sys::is_canonical(&[]);
+        sys::is_canonical(sys::BARE, &[]);
     }),
     ("record_time", || {
         sys::record_time(0, 0, 0, 0, &mut [0]);

@@ -147,6 +147,27 @@ pub fn marker(base_offset: i64, control_type: u8) -> Vec<u8> {
     head.with_body(1, &[0, 0, 0, control_type])
 }
 
+/// The record of a keyed marker, as brokers write it: its value has a version and the coordinator's
+/// epoch, of six bytes together.
+pub fn broker_record(control_type: u8) -> Vec<u8> {
+    Record {
+        key: Some(&[0, 0, 0, control_type]),
+        value: Some(&[0, 0, 0, 0, 0, 5]),
+        ..Record::default()
+    }
+    .bytes()
+}
+
+/// A control batch with that record.
+pub fn broker_marker(base_offset: i64, control_type: u8) -> Vec<u8> {
+    let head = Head {
+        base_offset,
+        attributes: 0x30,
+        ..Head::default()
+    };
+    head.with_body(1, &broker_record(control_type))
+}
+
 /// A batch of so many bytes, from ten thousand to a million: the lengths of its record and its
 /// value then have three bytes each.
 pub fn of_size(bytes: usize) -> Vec<u8> {

@@ -3,6 +3,7 @@
 //! What is expected comes from document 01: files are put together by `format`, and read by `model`
 //! or by a script, which share nothing with the library.
 
+mod control;
 mod dump;
 mod format;
 mod list;

@@ -123,9 +123,9 @@ fn help_has_usage_examples_and_statuses() {
     }
 }
 
-/// What a newcomer meets first.
+/// What a newcomer meets first: what is not yet Kafka's, and how logs of brokers are read.
 #[test]
-fn help_says_what_is_not_yet_kafka_s() {
+fn help_says_what_is_kafka_s_and_what_not() {
     let dump = run(["dump", "--help"]).output;
     for part in [
         "  --json ",
@@ -137,7 +137,10 @@ fn help_says_what_is_not_yet_kafka_s() {
     }
     for verb in VERBS {
         let page = run([verb, "--help"]).output.replace('\n', " ");
-        assert!(page.contains("(request C-16)"), "{page}");
+        for part in ["  --control MODE ", "read their logs with --control keyed"] {
+            assert!(page.contains(part), "{page}");
+        }
+        assert!(!page.contains("C-16"), "{page}");
     }
 }
 
@@ -156,7 +159,7 @@ fn version_is_the_package_s() {
     }
 }
 
-const WRONG: [(&[&str], &str); 14] = [
+const WRONG: [(&[&str], &str); 21] = [
     (&[], "no verb is given"),
     (&["lits", "a.log"], "there is no verb lits"),
     (&["-", "a.log"], "there is no verb -"),
@@ -174,6 +177,34 @@ const WRONG: [(&[&str], &str); 14] = [
         "verify has no option --fields",
     ),
     (&["list"], "list needs a FILE, and - is standard input"),
+    (
+        &["list", "a.log", "--control"],
+        "list needs bare or keyed after --control",
+    ),
+    (
+        &["dump", "--control", "broker", "a.log"],
+        "dump needs bare or keyed after --control, and not broker",
+    ),
+    (
+        &["verify", "--control=Keyed", "a.log"],
+        "verify needs bare or keyed after --control, and not Keyed",
+    ),
+    (
+        &["list", "--control=", "a.log"],
+        "list needs bare or keyed after --control, and not ",
+    ),
+    (
+        &["list", "--control", "keyed", "--control", "a.log"],
+        "list needs bare or keyed after --control, and not a.log",
+    ),
+    (
+        &["list", "--controlkeyed", "a.log"],
+        "list has no option --controlkeyed",
+    ),
+    (
+        &["dump", "--control", "keyed"],
+        "dump needs a FILE, and - is standard input",
+    ),
     (
         &["dump", "--json"],
         "dump needs a FILE, and - is standard input",

@@ -1,16 +1,19 @@
 //! What is asked of the writer: tables over a source, some of them with wild numbers. The model says
-//! the number, and the Rust the bytes of what it accepts.
+//! the number, and the Rust the bytes of what it accepts; of keyed markers the model says both.
 
 use rskafka::protocol::record::RecordBatchCompression;
 
-use crate::compare::{request, same, Difference};
+use crate::compare::{in_keyed_mode, request, same, Difference};
 use crate::model::writing::{self, Asked};
-use crate::model::{Entries, CODEC_ASKED, HEADER_ROW, RECORDS, RECORD_ROW, SHORT_OUTPUT};
+use crate::model::{
+    Entries, Mode, CODEC_ASKED, HEADER_ROW, KIND, RECORDS, RECORD_ROW, SHORT_OUTPUT,
+};
 use crate::ours::{Library, Tables};
 use crate::random::Random;
 use crate::theirs;
 
 /// A batch to be written.
+#[derive(Clone)]
 struct Request {
     batch: Entries,
     codec: i64,
@@ -21,28 +24,100 @@ struct Request {
 impl Request {
     fn asked(&self) -> Asked<'_> {
         let Self { batch, codec, tables: Tables { records, headers }, source } = self;
-        Asked { batch, codec: *codec, records, headers, source }
+        Asked { mode: Mode::Bare, batch, codec: *codec, records, headers, source }
     }
 }
 
-/// Asks for a random batch, or for one with faults; gives document 01's number.
-pub fn ask(library: &mut Library, random: &mut Random) -> Result<u32, Difference> {
+/// The number by which a request was answered.
+pub struct Answered {
+    pub number: u32,
+    /// The one in keyed mode, where a marker was asked for.
+    pub keyed_marker: Option<u32>,
+}
+
+impl From<u32> for Answered {
+    fn from(number: u32) -> Self {
+        Self { number, keyed_marker: None }
+    }
+}
+
+/// Asks for a random batch, or for one with faults.
+pub fn ask(library: &mut Library, random: &mut Random) -> Result<Answered, Difference> {
     let mut wanted = random_request(random);
     for _ in 0..random.pick(&[0, 0, 0, 1, 1, 1, 2, 3]) {
         spoil(&mut wanted, random);
     }
+    ask_for(library, &wanted, random)
+}
+
+/// Asks for markers: right ones, with each entry at both sides of its limits, and by each codec.
+pub fn markers(library: &mut Library, random: &mut Random) -> Vec<Result<Answered, Difference>> {
+    let mut answered = Vec::new();
+    for kind in [1, 2] {
+        let batch = [-1, 2, -3, 4, -5, 6, -7, 8, 1, 1, kind, 0, 0, 0, 0, 0];
+        let right = Request { batch, codec: 0, tables: Tables::default(), source: Vec::new() };
+        let mut ask = |change: &dyn Fn(&mut Request)| {
+            let mut wanted = right.clone();
+            change(&mut wanted);
+            answered.extend((0..20).map(|_| ask_for(library, &wanted, random)));
+        };
+        for codec in -1..=5 {
+            ask(&|wanted| wanted.codec = codec);
+        }
+        for (place, bits) in (0..16).flat_map(|place| [1, 2, 15, 31, 63].map(|bits| (place, bits)))
+        {
+            let edge = (1u64 << bits) as i64;
+            for number in [edge, edge.wrapping_sub(1), edge.wrapping_neg(), !edge, 0] {
+                ask(&|wanted| wanted.batch[place] = number);
+            }
+        }
+    }
+    answered
+}
+
+/// Asks for a batch in both modes.
+fn ask_for(
+    library: &mut Library,
+    wanted: &Request,
+    random: &mut Random,
+) -> Result<Answered, Difference> {
     let asked = wanted.asked();
     let written =
         writing::measure(&asked).ok().and_then(|_| theirs::written(&theirs::value(&asked)));
     let length = written.as_ref().map_or(64, Vec::len);
-    let room = match random.below(4) {
+    // A copy, so that the choices of the one mode are not moved by those of the other.
+    let mut same_choices = random.clone();
+    let room = any_room(length, random);
+    let number = request(library, &asked, written.as_deref(), room, random)?;
+    refused_by_the_rust(&asked, number, room, length)?;
+    let keyed = ask_keyed(library, &asked, written, &mut same_choices)?;
+    let keyed_marker = [1, 2].contains(&asked.batch[KIND]).then_some(keyed);
+    Ok(Answered { number, keyed_marker })
+}
+
+/// Asks for the same in keyed mode. Batches of records have the Rust's bytes there too.
+fn ask_keyed(
+    library: &mut Library,
+    bare: &Asked,
+    written: Option<Vec<u8>>,
+    random: &mut Random,
+) -> Result<u32, Difference> {
+    let asked = Asked { mode: Mode::Keyed, ..*bare };
+    let written = match asked.batch[KIND] {
+        0 => written,
+        _ => writing::measure(&asked).ok().map(|_| writing::keyed_batch(asked.batch)),
+    };
+    let room = any_room(written.as_ref().map_or(64, Vec::len), random);
+    request(library, &asked, written.as_deref(), room, random).map_err(in_keyed_mode)
+}
+
+/// An output that is too short, just enough or larger.
+fn any_room(length: usize, random: &mut Random) -> usize {
+    match random.below(4) {
         0 => random.below(length),
         1 => length,
         _ => length + random.below(9),
-    };
-    let number = request(library, &asked, written.as_deref(), room, random)?;
-    refused_by_the_rust(&asked, number, room, length)?;
-    Ok(number)
+    }
 }
 
 /// The Rust refuses a codec and an output that is too short as well.

@@ -1,16 +1,22 @@
 //! Holds one input, or one request, to the model and to the Rust.
 
+use std::borrow::Cow;
+
 use rskafka::protocol::record::RecordBatch;
 
 use crate::model::reading::{self, Reading};
 use crate::model::writing::{self, Asked};
-use crate::model::{crc32c, ACCEPTED, HEADER_ROW, MORE_BYTES, NO_ROOM, RECORD_ROW};
+use crate::model::{
+    crc32c, Mode, ACCEPTED, HEADERS, HEADER_ROW, KIND, MORE_BYTES, NO_ROOM, RECORDS, RECORD_ROW,
+    UNKNOWN_CONTROL, WRONG_COUNT,
+};
 use crate::ours::{Library, Tables};
 use crate::random::Random;
+use crate::shape::{repair_crc, CHECKED, CONTROL};
 use crate::theirs::{self, Accepted, Answer};
 
 /// What differs, in words.
-pub type Difference = &'static str;
+pub type Difference = Cow<'static, str>;
 
 /// What an input was answered with, by both.
 pub struct Compared {
@@ -21,14 +27,30 @@ pub struct Compared {
     pub canonical: bool,
     /// Whether it was read with rows too few as well.
     pub no_room: bool,
+    pub keyed: Keyed,
 }
 
-pub fn same<T: PartialEq>(one: T, other: T, what: Difference) -> Result<(), Difference> {
+/// What an input was answered with in keyed mode.
+pub struct Keyed {
+    pub number: u32,
+    /// What a marker does: 1 abort, 2 commit.
+    pub kind: i64,
+    pub canonical: bool,
+    pub control_bit: bool,
+    /// Whether its answer had to be that of bare mode.
+    pub alike: bool,
+}
+
+pub fn same<T: PartialEq>(one: T, other: T, what: &'static str) -> Result<(), Difference> {
     if one == other {
         Ok(())
     } else {
-        Err(what)
+        Err(what.into())
     }
+}
+
+pub fn in_keyed_mode(what: Difference) -> Difference {
+    format!("in keyed mode, {what}").into()
 }
 
 /// All that is answered of these bytes is what the model says, and in the domain what the Rust
@@ -38,22 +60,14 @@ pub fn input(
     bytes: &[u8],
     random: &mut Random,
 ) -> Result<Compared, Difference> {
-    let model = reading::read(bytes);
-    let answer = (model.number, model.entries);
-    same(library.check(bytes), answer, "the check is not the model's")?;
-    let canonical = u32::from(model.canonical);
-    same(library.is_canonical(bytes), canonical, "the canonical check is not the model's")?;
+    // A copy, so that the choices of the one mode are not moved by those of the other.
+    let mut same_choices = random.clone();
+    let (model, number) = modelled(library, Mode::Bare, bytes, random)?;
     same(library.crc32c(bytes), crc32c(bytes), "the checksum is not the model's")?;
-    if model.number != MORE_BYTES {
-        let more = random.next().to_be_bytes();
-        let longer = [bytes, &more[..1 + random.below(more.len())]].concat();
-        same(library.check(&longer), answer, "an answer does not stand when bytes are appended")?;
-    }
-    let rooms = any_rooms(&model, random);
-    let number = read(library, bytes, &model, rooms, random)?.0;
+    let keyed = keyed(library, bytes, &model, &mut same_choices).map_err(in_keyed_mode)?;
     let theirs = theirs::read(bytes);
     if let Answer::Panicked = theirs {
-        return Err("the Rust panics");
+        return Err("the Rust panics".into());
     }
     if model.in_domain() {
         against_rust(library, bytes, &model, &theirs, random)?;
@@ -64,12 +78,111 @@ pub fn input(
         accepted: matches!(theirs, Answer::Accepted(_)),
         canonical: model.canonical,
         no_room: number == NO_ROOM,
+        keyed,
     })
+}
+
+/// All that is answered of these bytes in that mode is what the model says. Gives also the number
+/// that was answered with the tables that were lent.
+fn modelled(
+    library: &mut Library,
+    mode: Mode,
+    bytes: &[u8],
+    random: &mut Random,
+) -> Result<(Reading, u32), Difference> {
+    let model = reading::read(mode, bytes);
+    let answer = (model.number, model.entries);
+    same(library.check(mode, bytes), answer, "the check is not the model's")?;
+    let canonical = u32::from(model.canonical);
+    same(library.is_canonical(mode, bytes), canonical, "the canonical check is not the model's")?;
+    if model.number != MORE_BYTES {
+        let more = random.next().to_be_bytes();
+        let longer = [bytes, &more[..1 + random.below(more.len())]].concat();
+        let stands = library.check(mode, &longer);
+        same(stands, answer, "an answer does not stand when bytes are appended")?;
+    }
+    let rooms = any_rooms(&model, random);
+    let number = read(library, mode, bytes, &model, rooms, random)?.0;
+    Ok((model, number))
+}
+
+/// The same bytes in keyed mode. Without the control bit, and where the answer is 1 to 7, both modes
+/// answer alike; of other control batches the Rust says what it says of their record.
+fn keyed(
+    library: &mut Library,
+    bytes: &[u8],
+    bare: &Reading,
+    random: &mut Random,
+) -> Result<Keyed, Difference> {
+    let (model, _) = modelled(library, Mode::Keyed, bytes, random)?;
+    let control_bit = bytes.get(CHECKED + 1).is_some_and(|low| low & CONTROL as u8 != 0);
+    let early = MORE_BYTES..=WRONG_COUNT;
+    let alike = !control_bit || early.contains(&bare.number) || early.contains(&model.number);
+    if alike {
+        same(&model, bare, "the answer is not that of bare mode")?;
+    } else {
+        record_by_rust(bytes, &model)?;
+    }
+    if control_bit && model.number == ACCEPTED {
+        marker_written(library, bytes, &model, random)?;
+    }
+    let Reading { number, canonical, .. } = model;
+    Ok(Keyed { number, kind: model.entries[KIND], canonical, control_bit, alike })
+}
+
+/// The record of a keyed marker is one that the Rust reads where the control bit is not set: it
+/// refuses the same, and where it does not, the key that it has read tells the marker. What the key
+/// means is document 02's alone.
+fn record_by_rust(bytes: &[u8], keyed: &Reading) -> Result<(), Difference> {
+    if !keyed.in_domain() {
+        return Ok(());
+    }
+    let mut plain = bytes.to_vec();
+    plain[CHECKED + 1] &= !(CONTROL as u8);
+    repair_crc(&mut plain);
+    let accepted = match theirs::read(&plain) {
+        Answer::Panicked => return Err("the Rust panics at a record".into()),
+        Answer::Refused => {
+            let refused = ![ACCEPTED, UNKNOWN_CONTROL].contains(&keyed.number);
+            return same(refused, true, "the Rust refuses a record that is accepted here");
+        }
+        Answer::Accepted(accepted) => accepted,
+    };
+    let record = theirs::records(&accepted.batch).first().ok_or("the Rust reads no record")?;
+    let mut entries = theirs::entries(&accepted.batch, accepted.consumed);
+    [entries[RECORDS], entries[HEADERS]] = [0, 0];
+    entries[KIND] = match record.key.as_deref() {
+        Some([0, 0, 0, 0, ..]) => 1,
+        Some([0, 0, 0, 1, ..]) => 2,
+        _ => return same(keyed.number, UNKNOWN_CONTROL, "the key that the Rust reads tells none"),
+    };
+    let due = (ACCEPTED, entries);
+    same((keyed.number, keyed.entries), due, "the key that the Rust reads tells another marker")
+}
+
+/// What was read of a marker is written in keyed mode, and is canonical exactly where these are its
+/// bytes.
+fn marker_written(
+    library: &mut Library,
+    bytes: &[u8],
+    model: &Reading,
+    random: &mut Random,
+) -> Result<(), Difference> {
+    let written = writing::keyed_batch(&model.entries);
+    same(model.canonical, written == bytes, "what is canonical is not what the model writes")?;
+    let batch = &model.entries;
+    let asked =
+        Asked { mode: Mode::Keyed, batch, codec: 0, records: &[], headers: &[], source: bytes };
+    for room in [written.len() + 3, written.len(), written.len() - 1] {
+        request(library, &asked, Some(&written), room, random)?;
+    }
+    Ok(())
 }
 
 /// Reads with tables of so many numbers, filled with anything: answer and tables are the model's.
 fn read(
     library: &mut Library,
+    mode: Mode,
     bytes: &[u8],
     model: &Reading,
     rooms: [usize; 2],
@@ -83,7 +196,7 @@ fn read(
         put_rows(&mut due.records, model.records.as_flattened());
         put_rows(&mut due.headers, model.headers.as_flattened());
     }
-    same(library.read(bytes, &mut tables), answer, "the reader's answer is not the model's")?;
+    same(library.read(mode, bytes, &mut tables), answer, "the reader's answer is not the model's")?;
     same(&tables, &due, "the tables are not the model's")?;
     Ok((answer.0, tables))
 }
@@ -129,10 +242,11 @@ fn against_rust(
     same(model.entries, entries, "fields, kind, counts or bytes differ from the Rust's")?;
     same(model.canonical, accepted.is_canonical(bytes), "the canonical check is not the Rust's")?;
     let rooms = rooms_enough(model, random);
-    let (_, tables) = read(library, bytes, model, rooms, random)?;
+    let (_, tables) = read(library, Mode::Bare, bytes, model, rooms, random)?;
     rows(batch, &tables, bytes)?;
     let Tables { records, headers } = &tables;
-    let asked = Asked { batch: &entries, codec: 0, records, headers, source: bytes };
+    let batch = &entries;
+    let asked = Asked { mode: Mode::Bare, batch, codec: 0, records, headers, source: bytes };
     for room in [written.len() + 3, written.len(), written.len() - 1] {
         request(library, &asked, Some(written), room, random)?;
     }
@@ -146,7 +260,7 @@ fn span(bytes: &[u8], start: i64, length: i64) -> Result<Option<&[u8]>, Differen
     }
     let range = usize::try_from(start).ok().zip(usize::try_from(length).ok());
     let span = range.and_then(|(start, length)| bytes.get(start..)?.get(..length));
-    span.map(Some).ok_or("a span lies outside the bytes")
+    span.map(Some).ok_or("a span lies outside the bytes".into())
 }
 
 /// The rows show what the Rust has read.
@@ -188,7 +302,7 @@ pub fn request(
     let mut due = output.clone();
     if answer.0 == ACCEPTED {
         let written = written.ok_or("the Rust does not write what the model accepts")?;
-        same(written.len() as i64, answer.1, "the Rust's length is not the model's")?;
+        same(written.len() as i64, answer.1, "the length of what is due is not the model's")?;
         due[..written.len()].copy_from_slice(written);
     }
     same(library.write(asked, &mut output), answer, "the writer's answer is not the model's")?;
@@ -204,8 +318,21 @@ pub fn stands(
     cut: usize,
     random: &mut Random,
 ) -> Result<Compared, Difference> {
+    let mut same_choices = random.clone();
+    judgement_stands(library, Mode::Bare, bytes, cut, random)?;
+    judgement_stands(library, Mode::Keyed, bytes, cut, &mut same_choices).map_err(in_keyed_mode)?;
+    input(library, bytes, random)
+}
+
+fn judgement_stands(
+    library: &mut Library,
+    mode: Mode,
+    bytes: &[u8],
+    cut: usize,
+    random: &mut Random,
+) -> Result<(), Difference> {
     let beginning = &bytes[..cut];
-    let rooms = any_rooms(&reading::read(beginning), random);
+    let rooms = any_rooms(&reading::read(mode, beginning), random);
     let [records, headers] = rooms.map(|room| random.numbers(room));
     let mut tables = Tables { records, headers };
     let mut larger = tables.clone();
@@ -214,12 +341,12 @@ pub fn stands(
         table.extend(random.numbers(more));
     }
     let mut due = larger.clone();
-    let early = library.read(beginning, &mut tables);
+    let early = library.read(mode, beginning, &mut tables);
     if early.0 != MORE_BYTES && early.0 != NO_ROOM {
         put_rows(&mut due.records, &tables.records);
         put_rows(&mut due.headers, &tables.headers);
-        same(library.read(bytes, &mut larger), early, "a judgement does not stand")?;
+        same(library.read(mode, bytes, &mut larger), early, "a judgement does not stand")?;
         same(larger, due, "the rows of a judgement do not stand")?;
     }
-    input(library, bytes, random)
+    Ok(())
 }

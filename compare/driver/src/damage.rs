@@ -101,6 +101,19 @@ fn marker(batch: &mut Batch, random: &mut Random) {
     batch.attributes |= CONTROL;
 }
 
+/// A key that tells no marker: null, short, or of another version or type.
+pub fn no_marker(batch: &mut Batch, random: &mut Random) {
+    let [any, other] = [(); 2].map(|()| random.number(16) as i16);
+    let [version, kind] =
+        random.pick(&[[1, 0], [0, 2], [256, 0], [0, 256], [0, any], [any, other]]);
+    let key = match random.below(4) {
+        0 => None,
+        1 => Some(vec![0; random.below(4)]),
+        _ => Some([version.to_be_bytes(), kind.to_be_bytes()].concat()),
+    };
+    some_record(batch, random).key = Span::of(key);
+}
+
 /// A record of the batch, which gets one where it has none.
 fn some_record<'a>(batch: &'a mut Batch, random: &mut Random) -> &'a mut Record {
     if !matches!(&batch.body, Body::Records(records) if !records.is_empty()) {

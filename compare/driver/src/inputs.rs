@@ -4,7 +4,7 @@ use std::path::Path;
 
 use crate::damage::{change_bytes, change_part};
 use crate::model::reading;
-use crate::model::{ACCEPTED, BYTES};
+use crate::model::{Mode, ACCEPTED, BYTES};
 use crate::random::Random;
 use crate::shape::{
     repair, repair_crc, varint, Batch, Body, Coded, Form, Record, Span, BATCH_LENGTH, BODY,
@@ -73,7 +73,7 @@ fn short_strings(each: &mut dyn FnMut(&[u8])) {
 }
 
 /// All strings of so many bytes and fewer.
-fn strings(most: usize, each: &mut dyn FnMut(&[u8])) {
+pub fn strings(most: usize, each: &mut dyn FnMut(&[u8])) {
     for length in 0..=most {
         for number in 0u32..1 << (8 * length) {
             each(&number.to_be_bytes()[4 - length..]);
@@ -81,9 +81,13 @@ fn strings(most: usize, each: &mut dyn FnMut(&[u8])) {
     }
 }
 
-/// As they are, and as batches with a right length and checksum.
 fn beginnings(each: &mut dyn FnMut(&[u8])) {
-    for batch in small() {
+    beginnings_of(&small(), each);
+}
+
+/// As they are, and as batches with a right length and checksum.
+pub fn beginnings_of(batches: &[Batch], each: &mut dyn FnMut(&[u8])) {
+    for batch in batches {
         let bytes = batch.bytes();
         for end in 0..=bytes.len() {
             each(&bytes[..end]);
@@ -113,7 +117,11 @@ fn batch_lengths(each: &mut dyn FnMut(&[u8])) {
 }
 
 fn changed_bytes(each: &mut dyn FnMut(&[u8])) {
-    for batch in small() {
+    changed_bytes_of(&small(), each);
+}
+
+pub fn changed_bytes_of(batches: &[Batch], each: &mut dyn FnMut(&[u8])) {
+    for batch in batches {
         let right = batch.bytes();
         for place in 0..right.len() {
             for byte in (0..=255).filter(|&byte| byte != right[place]) {
@@ -130,7 +138,11 @@ fn changed_bytes(each: &mut dyn FnMut(&[u8])) {
 }
 
 fn changed_pairs(each: &mut dyn FnMut(&[u8])) {
-    for batch in small() {
+    changed_pairs_of(&small(), each);
+}
+
+pub fn changed_pairs_of(batches: &[Batch], each: &mut dyn FnMut(&[u8])) {
+    for batch in batches {
         let right = batch.bytes();
         for place in BODY..right.len().saturating_sub(1) {
             for pair in 0..=u16::MAX {
@@ -150,10 +162,14 @@ fn as_is_and_repaired(mut bytes: Vec<u8>, each: &mut dyn FnMut(&[u8])) {
     each(&bytes);
 }
 
-/// Every two places, each with its lowest bit or its highest changed, or made 0 or FF.
 fn damaged_pairs(each: &mut dyn FnMut(&[u8])) {
+    damaged_pairs_of(&small(), each);
+}
+
+/// Every two places, each with its lowest bit or its highest changed, or made 0 or FF.
+pub fn damaged_pairs_of(batches: &[Batch], each: &mut dyn FnMut(&[u8])) {
     const DAMAGES: [fn(u8) -> u8; 4] = [|byte| byte ^ 1, |byte| byte ^ 0x80, |_| 0, |_| 0xFF];
-    for batch in small() {
+    for batch in batches {
         let right = batch.bytes();
         for (second, first) in (0..right.len()).flat_map(|at| (0..at).map(move |first| (at, first)))
         {
@@ -194,7 +210,7 @@ fn batches_of(log: &[u8]) -> Vec<(usize, usize)> {
     let mut ends = Vec::new();
     let mut at = 0;
     while at < log.len() {
-        let read = reading::read(&log[at..]);
+        let read = reading::read(Mode::Bare, &log[at..]);
         assert_eq!(read.number, ACCEPTED, "a sample has a batch that is not one, at {at}");
         let end = at + read.entries[BYTES] as usize;
         ends.push((at, end));
@@ -235,6 +251,11 @@ pub fn beginnings_with_tails(each: &mut dyn FnMut(&[u8], &[u8])) {
     for log in sample_logs() {
         all.extend(batches_of(&log).into_iter().map(|(start, end)| log[start..end].to_vec()));
     }
+    each_with_tails(&all, &others, each);
+}
+
+/// The beginnings of all of these, with zeros, ones, another byte and each of the others after them.
+pub fn each_with_tails(all: &[Vec<u8>], others: &[Vec<u8>], each: &mut dyn FnMut(&[u8], &[u8])) {
     for bytes in all {
         let step = 1 + bytes.len() / 200;
         for cut in (0..bytes.len()).step_by(step).chain([bytes.len()]) {
@@ -243,7 +264,7 @@ pub fn beginnings_with_tails(each: &mut dyn FnMut(&[u8], &[u8])) {
             let ones = vec![0xFF; left + 1];
             let mut changed = bytes[cut..].to_vec();
             changed.iter_mut().take(1).for_each(|byte| *byte ^= 0x55);
-            for tail in [&zeros, &ones, &changed].into_iter().chain(&others) {
+            for tail in [&zeros, &ones, &changed].into_iter().chain(others) {
                 each(&bytes[..cut], tail);
             }
         }
@@ -304,9 +325,23 @@ fn header_keys(each: &mut dyn FnMut(&[u8])) {
     }
 }
 
-/// Numbers at both sides of every length, and those that ought to be there, each in every number of
-/// bytes up to eleven, at every place that has one.
 fn numbers(each: &mut dyn FnMut(&[u8])) {
+    let records = [record_with_header(b"k", b"v"), Record::of(None, None)];
+    numbers_of(&records, |record| Batch::of(vec![record]), each);
+}
+
+/// Numbers at both sides of every length, and those that ought to be there, each in every number of
+/// bytes up to eleven, at every place that has one in each of the records, made a batch.
+pub fn numbers_of(records: &[Record], batch: fn(Record) -> Batch, each: &mut dyn FnMut(&[u8])) {
+    let mut at_every_place = |number: Coded| {
+        for record in records {
+            for place in 0..6 + 2 * record.headers.len() {
+                let mut record = record.clone();
+                *number_at(place, &mut record) = number.clone();
+                each(&batch(record).bytes());
+            }
+        }
+    };
     let mut values = vec![0, i64::MIN, i64::MAX];
     for power in (6..63).step_by(7).chain([31]) {
         let edge = 1i64 << power;
@@ -314,24 +349,11 @@ fn numbers(each: &mut dyn FnMut(&[u8])) {
     }
     for value in values {
         for longer in 0..=11 - varint(value, 0).len() {
-            at_every_place(&Coded::Raw(varint(value, longer)), each);
+            at_every_place(Coded::Raw(varint(value, longer)));
         }
     }
     for longer in 0..=10 {
-        at_every_place(&Coded::Right(longer), each);
-    }
-}
-
-/// The number at each of its places in a record with a header, and in the smallest record.
-fn at_every_place(number: &Coded, each: &mut dyn FnMut(&[u8])) {
-    let header = record_with_header(b"k", b"v");
-    let smallest = Record::of(None, None);
-    for (record, places) in [(header, 8), (smallest, 6)] {
-        for place in 0..places {
-            let mut record = record.clone();
-            *number_at(place, &mut record) = number.clone();
-            each(&Batch::of(vec![record]).bytes());
-        }
+        at_every_place(Coded::Right(longer));
     }
 }
 
@@ -355,7 +377,11 @@ pub fn random(random: &mut Random) -> Vec<u8> {
     for _ in 0..faults {
         change_part(&mut batch, random);
     }
-    let mut bytes = batch.bytes();
+    mostly_left(batch.bytes(), random)
+}
+
+/// The bytes as they are, more often than not, or changed, longer or cut.
+pub fn mostly_left(mut bytes: Vec<u8>, random: &mut Random) -> Vec<u8> {
     match random.below(12) {
         0..=2 => change_bytes(&mut bytes, random),
         3..=6 => {

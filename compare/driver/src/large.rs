@@ -3,7 +3,7 @@
 
 use crate::compare::{self, same, Difference};
 use crate::model::writing::{self, Asked};
-use crate::model::{Entries, ACCEPTED, RECORDS, RECORD_ROW, TOO_LONG};
+use crate::model::{Entries, Mode, ACCEPTED, RECORDS, RECORD_ROW, TOO_LONG};
 use crate::ours::Library;
 use crate::random::Random;
 use crate::theirs;
@@ -44,7 +44,7 @@ impl Large {
 
     fn asked(&self) -> Asked<'_> {
         let Self { batch, records, source } = self;
-        Asked { batch, codec: 0, records, headers: &[], source }
+        Asked { mode: Mode::Bare, batch, codec: 0, records, headers: &[], source }
     }
 }
 
@@ -63,6 +63,8 @@ pub fn measure(
         let answer = library.measure(&large.asked());
         let expected = if more > 0 { (TOO_LONG, 0) } else { (ACCEPTED, 12 + GREATEST + more) };
         same(answer, expected, "a large batch is measured otherwise")?;
+        let keyed = library.measure(&Asked { mode: Mode::Keyed, ..large.asked() });
+        same(keyed, expected, "a large batch is measured otherwise in keyed mode")?;
         let modelled = writing::answer(writing::measure(&large.asked()), usize::MAX);
         same(modelled, expected, "the model measures a large batch otherwise")?;
         Ok(answer.0)

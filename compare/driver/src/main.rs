@@ -9,6 +9,7 @@ mod asked;
 mod compare;
 mod damage;
 mod inputs;
+mod keyed;
 mod large;
 mod lent;
 mod model;
@@ -22,6 +23,7 @@ mod theirs;
 use std::error::Error;
 use std::process::ExitCode;
 
+use asked::Answered;
 use ours::Library;
 use random::Random;
 use tally::Tally;
@@ -43,13 +45,18 @@ fn run(arguments: &[&str]) -> Result<(), Box<dyn Error>> {
     match arguments {
         ["compare", inputs, seed] => {
             let mut run = Run::new(seed.parse()?);
+            let inputs = inputs.parse()?;
             run.all_of_a_kind();
-            run.random(inputs.parse()?);
+            run.random(inputs);
+            run.all_keyed();
+            run.random_keyed(inputs);
             run.tally.print()?;
         }
         ["random", inputs, seed] => {
             let mut run = Run::new(seed.parse()?);
-            run.random(inputs.parse()?);
+            let inputs = inputs.parse()?;
+            run.random(inputs);
+            run.random_keyed(inputs);
             run.tally.print()?;
         }
         ["large"] => {
@@ -117,8 +124,43 @@ impl Run {
         inputs::beginnings_with_tails(&mut |beginning, tail| self.stands(beginning, tail));
         self.tally.group("batches about the greatest, to be measured");
         for number in large::measure(4000, &mut self.library, &mut self.random) {
-            self.tally.asked(number);
+            self.tally.asked(number.map(Answered::from));
         }
+    }
+
+    /// The same of keyed markers. They come last, so that the inputs before them are what they are
+    /// without them.
+    fn all_keyed(&mut self) {
+        for (name, group) in keyed::GROUPS {
+            self.tally.group(name);
+            group(&mut |bytes| self.input(bytes));
+        }
+        self.tally.group("keyed markers, beginnings with other tails");
+        keyed::beginnings_with_tails(&mut |beginning, tail| self.stands(beginning, tail));
+        self.tally.group("markers to be written, with each entry at its limits");
+        for answered in asked::markers(&mut self.library, &mut self.random) {
+            self.tally.asked(answered);
+        }
+    }
+
+    fn random_keyed(&mut self, inputs: usize) {
+        let shared = |share: usize| (inputs / share).max(1);
+        self.tally.group("random keyed markers");
+        for _ in 0..shared(4) {
+            let bytes = keyed::random(&mut self.random);
+            self.input(&bytes);
+        }
+        self.tally.group("random beginnings of keyed markers with random tails");
+        for _ in 0..shared(16) {
+            let [bytes, tail] = [(); 2].map(|()| keyed::random(&mut self.random));
+            self.spliced(&bytes, &tail);
+        }
+    }
+
+    /// A beginning of the one with an end of the other.
+    fn spliced(&mut self, bytes: &[u8], tail: &[u8]) {
+        let [end, start] = [bytes, tail].map(|all| self.random.below(all.len() + 1));
+        self.stands(&bytes[..end], &tail[start..]);
     }
 
     /// So many random inputs, and a share of them of each other random kind, one at least.
@@ -134,13 +176,12 @@ impl Run {
         self.tally.group("random beginnings with random tails");
         for _ in 0..shared(8) {
             let [bytes, tail] = [(); 2].map(|()| inputs::random(&mut self.random));
-            let [end, start] = [&bytes, &tail].map(|all| self.random.below(all.len() + 1));
-            self.stands(&bytes[..end], &tail[start..]);
+            self.spliced(&bytes, &tail);
         }
         self.tally.group("random batches to be written, with wild rows");
         for _ in 0..shared(4) {
-            let number = asked::ask(&mut self.library, &mut self.random);
-            self.tally.asked(number);
+            let answered = asked::ask(&mut self.library, &mut self.random);
+            self.tally.asked(answered);
         }
         self.tally.group("random times of records");
         for _ in 0..shared(8) {

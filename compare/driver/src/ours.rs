@@ -4,7 +4,7 @@ use oddrafisk_sys as sys;
 
 use crate::lent::{about_to_read, Guarded};
 use crate::model::writing::Asked;
-use crate::model::Entries;
+use crate::model::{Entries, Mode};
 
 /// Both tables, a row after the other.
 #[derive(Clone, Debug, Default, PartialEq)]
@@ -18,6 +18,28 @@ pub struct Library {
     lent: Lent,
     output: Guarded,
     answer: Guarded,
+    modes: Modes,
+}
+
+/// The numbers by which the mode is passed. Every number but 1 is the bare mode: each of some is used
+/// in turn.
+#[derive(Default)]
+struct Modes {
+    used: usize,
+}
+
+impl Modes {
+    const BARE: [u32; 7] = [sys::BARE, sys::BARE, 2, 3, 0x101, 0x8000_0001, u32::MAX];
+
+    fn number(&mut self, mode: Mode) -> u32 {
+        match mode {
+            Mode::Keyed => sys::KEYED,
+            Mode::Bare => {
+                self.used = (self.used + 1) % Self::BARE.len();
+                Self::BARE[self.used]
+            }
+        }
+    }
 }
 
 struct Lent {
@@ -32,6 +54,7 @@ impl Lent {
     fn read_only(&mut self, asked: &Asked) -> Asked<'_> {
         about_to_read(asked.source);
         Asked {
+            mode: asked.mode,
             batch: self.batch.read_only(asked.batch).try_into().expect("sixteen are lent"),
             codec: asked.codec,
             records: self.records.read_only(asked.records),
@@ -47,48 +70,53 @@ const UNANSWERED: i64 = 0x5A5A_5A5A_5A5A_5A5A;
 impl Library {
     pub fn new() -> Self {
         let [bytes, batch, records, headers, output, answer] = [(); 6].map(|()| Guarded::new());
-        Self { lent: Lent { bytes, batch, records, headers }, output, answer }
+        let lent = Lent { bytes, batch, records, headers };
+        Self { lent, output, answer, modes: Modes::default() }
     }
 
-    pub fn check(&mut self, bytes: &[u8]) -> (u32, Entries) {
+    pub fn check(&mut self, mode: Mode, bytes: &[u8]) -> (u32, Entries) {
         about_to_read(bytes);
+        let mode = self.modes.number(mode);
         let bytes = self.lent.bytes.read_only(bytes);
         let answer = sixteen(self.answer.writable(&[UNANSWERED; 16]));
-        (sys::check(bytes, answer), *answer)
+        (sys::check(mode, bytes, answer), *answer)
     }
 
     /// The tables are lent as they are, and come back as the library leaves them.
-    pub fn read(&mut self, bytes: &[u8], tables: &mut Tables) -> (u32, Entries) {
+    pub fn read(&mut self, mode: Mode, bytes: &[u8], tables: &mut Tables) -> (u32, Entries) {
         about_to_read(bytes);
+        let mode = self.modes.number(mode);
         let bytes = self.lent.bytes.read_only(bytes);
         let records = self.lent.records.writable(&tables.records);
         let headers = self.lent.headers.writable(&tables.headers);
         let answer = sixteen(self.answer.writable(&[UNANSWERED; 16]));
-        let number = sys::read(bytes, records, headers, answer);
+        let number = sys::read(mode, bytes, records, headers, answer);
         tables.records.copy_from_slice(records);
         tables.headers.copy_from_slice(headers);
         (number, *answer)
     }
 
     pub fn measure(&mut self, asked: &Asked) -> (u32, i64) {
-        let Asked { batch, codec, records, headers, source } = self.lent.read_only(asked);
+        let mode = self.modes.number(asked.mode);
+        let Asked { batch, codec, records, headers, source, .. } = self.lent.read_only(asked);
         let answer = one(self.answer.writable(&[UNANSWERED]));
-        (sys::measure(batch, codec, records, headers, source, answer), answer[0])
+        (sys::measure(mode, batch, codec, records, headers, source, answer), answer[0])
     }
 
     /// The output is lent as it is, and comes back as the library leaves it.
     pub fn write(&mut self, asked: &Asked, output: &mut [u8]) -> (u32, i64) {
-        let Asked { batch, codec, records, headers, source } = self.lent.read_only(asked);
+        let mode = self.modes.number(asked.mode);
+        let Asked { batch, codec, records, headers, source, .. } = self.lent.read_only(asked);
         let lent = self.output.writable(output);
         let answer = one(self.answer.writable(&[UNANSWERED]));
-        let number = sys::write(batch, codec, records, headers, source, lent, answer);
+        let number = sys::write(mode, batch, codec, records, headers, source, lent, answer);
         output.copy_from_slice(lent);
         (number, answer[0])
     }
 
-    pub fn is_canonical(&mut self, bytes: &[u8]) -> u32 {
+    pub fn is_canonical(&mut self, mode: Mode, bytes: &[u8]) -> u32 {
         about_to_read(bytes);
-        sys::is_canonical(self.lent.bytes.read_only(bytes))
+        sys::is_canonical(self.modes.number(mode), self.lent.bytes.read_only(bytes))
     }
 
     pub fn crc32c(&mut self, bytes: &[u8]) -> u32 {

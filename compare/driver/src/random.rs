@@ -1,5 +1,6 @@
 //! A seeded source of choices, so that every run can be repeated: splitmix64.
 
+#[derive(Clone)]
 pub struct Random(u64);
 
 impl Random {

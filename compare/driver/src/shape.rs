@@ -188,6 +188,11 @@ impl Batch {
         Self { attributes: CONTROL, body: Body::Marker([version, kind]), ..Self::of(Vec::new()) }
     }
 
+    /// A control batch whose marker is this record.
+    pub fn keyed(record: Record) -> Self {
+        Self { attributes: CONTROL, ..Self::of(vec![record]) }
+    }
+
     fn put_body(&self, out: &mut Vec<u8>) {
         match &self.body {
             Body::Records(records) => records.iter().for_each(|record| record.put(out)),
@@ -312,6 +317,21 @@ impl Form {
     pub fn batch_of(self, count: usize, random: &mut Random) -> Batch {
         let body = self.records(count, random);
         self.batch_with(body, random)
+    }
+
+    /// A control batch that is accepted in keyed mode.
+    pub fn keyed(self, random: &mut Random) -> Batch {
+        let mut key = vec![0, 0, 0, random.below(2) as u8];
+        let mut record = Record::of(Some(&key), None);
+        if self == Form::Free {
+            record = self.record(random);
+            let more = if random.one_in(2) { random.size() } else { 0 };
+            key.extend(random.bytes(more));
+            record.key = self.span(Some(key), random);
+        }
+        let mut batch = self.batch_with(Body::Records(vec![record]), random);
+        batch.attributes |= CONTROL;
+        batch
     }
 
     fn batch_with(self, body: Body, random: &mut Random) -> Batch {

@@ -5,7 +5,7 @@ use std::fmt::Write;
 
 use crate::inputs;
 use crate::model::reading;
-use crate::model::{ACCEPTED, BEYOND_LIMITS, BYTES};
+use crate::model::{Mode, ACCEPTED, BEYOND_LIMITS, BYTES};
 use crate::random::Random;
 use crate::tally::hex;
 use crate::theirs::{self, Accepted, Answer};
@@ -45,7 +45,7 @@ fn chosen() -> Vec<Vec<u8>> {
     let mut random = Random::new(1);
     while !wanted.is_empty() {
         let input = inputs::random(&mut random);
-        let number = reading::read(&input).number;
+        let number = reading::read(Mode::Bare, &input).number;
         if let Some(more) = wanted.get_mut(&number).filter(|_| input.len() <= LONGEST_INPUT) {
             *more -= 1;
             if *more == 0 {

@@ -2,8 +2,11 @@
 
 use std::collections::BTreeMap;
 
-use crate::compare::{Compared, Difference};
-use crate::model::{ACCEPTED, BEYOND_LIMITS};
+use crate::asked::Answered;
+use crate::compare::{Compared, Difference, Keyed};
+use crate::model::{
+    ACCEPTED, BEYOND_LIMITS, BYTES_LEFT, CODEC_ASKED, MORE_BYTES, SHORT_OUTPUT, WRONG_ROW,
+};
 
 #[derive(Default)]
 pub struct Tally {
@@ -14,7 +17,71 @@ pub struct Tally {
     canonical: usize,
     no_room: usize,
     outside_accepted: Shortest,
+    keyed: KeyedTally,
     differences: BTreeMap<Difference, Shortest>,
+}
+
+/// What was compared in keyed mode.
+#[derive(Default)]
+struct KeyedTally {
+    without_control_bit: usize,
+    /// Control batches: by number, and by what the accepted ones do.
+    read: BTreeMap<(u32, i64), usize>,
+    /// Those of them that had to be answered as in bare mode.
+    alike: usize,
+    canonical: usize,
+    /// Requests to write a marker.
+    asked: BTreeMap<u32, usize>,
+}
+
+impl KeyedTally {
+    fn input(&mut self, keyed: &Keyed) {
+        if !keyed.control_bit {
+            self.without_control_bit += 1;
+            return;
+        }
+        *self.read.entry((keyed.number, keyed.kind)).or_default() += 1;
+        self.alike += usize::from(keyed.alike);
+        self.canonical += usize::from(keyed.canonical);
+    }
+
+    /// Every answer that there is to a control batch and to a request for a marker, with how often
+    /// it was given.
+    fn answers(&self) -> impl Iterator<Item = (String, usize)> + '_ {
+        let refused = (MORE_BYTES..=BYTES_LEFT).map(|number| (number, 0, String::new()));
+        let accepted = [(1, ", abort"), (2, ", commit")];
+        let accepted = accepted.map(|(kind, said)| (ACCEPTED, kind, said.to_string()));
+        let read = accepted.into_iter().chain(refused).map(|(number, kind, said)| {
+            let count = self.read.get(&(number, kind)).copied().unwrap_or(0);
+            (format!("answered {number}{said}"), count)
+        });
+        let asked = [ACCEPTED, CODEC_ASKED, WRONG_ROW, SHORT_OUTPUT].into_iter().map(|number| {
+            let count = self.asked.get(&number).copied().unwrap_or(0);
+            (format!("answered {number}, in writing"), count)
+        });
+        read.chain(asked)
+    }
+
+    fn print(&self) {
+        println!("by number, of control batches in keyed mode:");
+        for (answer, count) in self.answers() {
+            println!("{count:>10} {answer}{}", if count == 0 { ": EMPTY" } else { "" });
+        }
+        let control: usize = self.read.values().sum();
+        let outside = self.read.get(&(BEYOND_LIMITS, 0)).copied().unwrap_or(0);
+        let apart = control - self.alike;
+        let Self { without_control_bit, alike, canonical, .. } = self;
+        println!(
+            "in keyed mode: {} inputs read, of which {without_control_bit} without the control bit \
+             and {alike} with it, answered 1 to 7, are answered as in bare mode",
+            without_control_bit + control
+        );
+        println!(
+            "control batches answered 0 or 8 to 13 there: {apart}, of which canonical {canonical}; \
+             excluded from the comparison with the Rust, but for the record in {} of them",
+            apart - outside
+        );
+    }
 }
 
 /// A group of inputs: each is a test, which fails where one of them differs or there is none.
@@ -92,11 +159,15 @@ impl Tally {
         if compared.accepted && !compared.in_domain {
             self.outside_accepted.add(bytes);
         }
+        self.keyed.input(&compared.keyed);
     }
 
-    pub fn asked(&mut self, number: Result<u32, Difference>) {
-        if let Some(number) = self.count(&[], number) {
+    pub fn asked(&mut self, answered: Result<Answered, Difference>) {
+        if let Some(Answered { number, keyed_marker }) = self.count(&[], answered) {
             *self.asked.entry(number).or_default() += 1;
+            if let Some(number) = keyed_marker {
+                *self.keyed.asked.entry(number).or_default() += 1;
+            }
         }
     }
 
@@ -114,16 +185,22 @@ impl Tally {
         println!("by number, in writing:");
         self.asked.iter().for_each(|(number, count)| println!("{count:>10} answered {number}"));
         self.print_sums();
+        self.keyed.print();
         for (difference, shortest) in &self.differences {
             println!("DIFFERENT, {} times: {difference}", shortest.count);
             shortest.print();
         }
+        // That each answer of keyed mode is among those that were compared is a test as well.
+        let all_met = self.keyed.answers().all(|(_, count)| count > 0);
         let passed = self.groups.iter().filter(|group| group.passed()).count();
-        println!("{passed} passed, {} failed", self.groups.len() - passed);
-        if passed == self.groups.len() && passed > 0 {
-            Ok(())
-        } else {
+        let failed = self.groups.len() - passed + usize::from(!all_met);
+        println!("{} passed, {failed} failed", passed + usize::from(all_met));
+        if passed < self.groups.len() || passed == 0 {
             Err("Oddrafisk, the model and the Rust are not alike")
+        } else if !all_met {
+            Err("an answer of keyed mode is not among those that were compared")
+        } else {
+            Ok(())
         }
     }
 

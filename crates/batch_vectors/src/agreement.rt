@@ -8,15 +8,30 @@ use cases::text::Spelled;
 use cases::text::hexadecimal;
 use cases::text::same;
 use cases::text::word;
+use cases::text::words_from;
+use layout::ControlMode;
 
-// The first word says what a case is about. A line that is no case agrees with nothing. Bytes are put into space.
+// A case whose first word is a mode holds in that mode, and every other in both. A line that is no case agrees with
+// nothing. Bytes are put into space.
 pub fn agrees(line: &[u8], space: &mut [u8]) -> bool {
+    let mode = word(line, 0);
+    if same(mode, b"bare") {
+        return agrees_in(ControlMode::Bare, words_from(line, 1), space);
+    }
+    if same(mode, b"keyed") {
+        return agrees_in(ControlMode::Keyed, words_from(line, 1), space);
+    }
+    agrees_in(ControlMode::Bare, line, space) && agrees_in(ControlMode::Keyed, line, space)
+}
+
+// The first word says what a case is about.
+fn agrees_in(mode: ControlMode, line: &[u8], space: &mut [u8]) -> bool {
     let kind = word(line, 0);
     if same(kind, b"time") {
         return times::agrees(line);
     }
     if same(kind, b"large") {
-        return large::agrees(line);
+        return large::agrees(mode, line);
     }
     let Spelled::Count(count) = hexadecimal(word(line, 1), space) else {
         return false;
@@ -24,21 +39,21 @@ pub fn agrees(line: &[u8], space: &mut [u8]) -> bool {
     if space.len() < count {
         return false;
     }
-    answered(kind, &space[..count], line)
+    answered(mode, kind, &space[..count], line)
 }
 
-fn answered(kind: &[u8], s: &[u8], line: &[u8]) -> bool {
+fn answered(mode: ControlMode, kind: &[u8], s: &[u8], line: &[u8]) -> bool {
     if same(kind, b"batch") {
-        return batch::agrees(s, line);
+        return batch::agrees(mode, s, line);
     }
     if same(kind, b"cuts") {
-        return batch::agrees_cut(s, line);
+        return batch::agrees_cut(mode, s, line);
     }
     if same(kind, b"write") {
-        return writer::batch_agrees(s, line);
+        return writer::batch_agrees(mode, s, line);
     }
     if same(kind, b"write-records") {
         return writer::records_agree(s, line);
     }
-    same(kind, b"canonical") && exact::agrees(s, line)
+    same(kind, b"canonical") && exact::agrees(mode, s, line)
 }

@@ -16,6 +16,7 @@ use cases::text::before;
 use cases::text::unsigned;
 use cases::text::word;
 use cases::text::words_from;
+use layout::ControlMode;
 use layout::RecordBatchTimestampType;
 use markers::ControlBatchRecord;
 use opening::BatchFault;
@@ -43,12 +44,12 @@ struct Room {
 }
 
 // batch HEX R H ANSWER[|..]
-pub fn agrees(s: &[u8], line: &[u8]) -> bool {
-    is_told(s, words_from(line, 2))
+pub fn agrees(mode: ControlMode, s: &[u8], line: &[u8]) -> bool {
+    is_told(mode, s, words_from(line, 2))
 }
 
 // R H ANSWER[|..]: after the bar stand the rows of both tables or, where there is no room, what the check answers.
-fn is_told(s: &[u8], told: &[u8]) -> bool {
+fn is_told(mode: ControlMode, s: &[u8], told: &[u8]) -> bool {
     let n = before(told, b'|');
     let Spelled::Count(records) = unsigned(word(&told[..n], 0)) else {
         return false;
@@ -65,14 +66,15 @@ fn is_told(s: &[u8], told: &[u8]) -> bool {
     let mut records = [0i64; MOST];
     let mut headers = [0i64; MOST];
     if number == NO_ROOM {
-        return check_is(s, more) && read_is(s, room, answer, b"", &mut records, &mut headers);
+        return check_is(mode, s, more)
+            && read_is(mode, s, room, answer, b"", &mut records, &mut headers);
     }
-    check_is(s, answer) && read_is(s, room, answer, more, &mut records, &mut headers)
+    check_is(mode, s, answer) && read_is(mode, s, room, answer, more, &mut records, &mut headers)
 }
 
 // cuts HEX K R H ANSWER[|..]: what each part that starts at the first byte is answered. One of them has to have K
 // bytes.
-pub fn agrees_cut(s: &[u8], line: &[u8]) -> bool {
+pub fn agrees_cut(mode: ControlMode, s: &[u8], line: &[u8]) -> bool {
     let Spelled::Count(whole) = unsigned(word(line, 2)) else {
         return false;
     };
@@ -81,7 +83,7 @@ pub fn agrees_cut(s: &[u8], line: &[u8]) -> bool {
     }
     let mut k = 0;
     while k <= s.len() {
-        if !part_agrees(&s[..k], whole, words_from(line, 3)) {
+        if !part_agrees(mode, &s[..k], whole, words_from(line, 3)) {
             return false;
         }
         k += 1;
@@ -89,11 +91,11 @@ pub fn agrees_cut(s: &[u8], line: &[u8]) -> bool {
     true
 }
 
-fn part_agrees(s: &[u8], whole: usize, told: &[u8]) -> bool {
+fn part_agrees(mode: ControlMode, s: &[u8], whole: usize, told: &[u8]) -> bool {
     if s.len() < whole {
-        return needs(s, needed(s.len(), whole));
+        return needs(mode, s, needed(s.len(), whole));
     }
-    is_told(s, told)
+    is_told(mode, s, told)
 }
 
 fn needed(len: usize, whole: usize) -> usize {
@@ -107,13 +109,13 @@ fn needed(len: usize, whole: usize) -> usize {
 }
 
 // Whether both functions need so many bytes, and the tables stay as they are.
-fn needs(s: &[u8], n: usize) -> bool {
+fn needs(mode: ControlMode, s: &[u8], n: usize) -> bool {
     let mut records = [0i64; MOST];
     let mut headers = [0i64; MOST];
     mark(&mut records, RECORD_MARK);
     mark(&mut headers, HEADER_MARK);
-    let read = RecordBatch::read(s, &mut records, &mut headers);
-    check_needs(RecordBatch::check(s), n)
+    let read = RecordBatch::read(mode, s, &mut records, &mut headers);
+    check_needs(RecordBatch::check(mode, s), n)
         && read_needs(read, n)
         && holds(&records, RECORD_MARK, 0, b"")
         && holds(&headers, HEADER_MARK, 0, b"")
@@ -133,14 +135,15 @@ fn read_needs(r: BatchRead, n: usize) -> bool {
     }
 }
 
-fn check_is(s: &[u8], expected: &[u8]) -> bool {
-    let answer = checked(RecordBatch::check(s));
+fn check_is(mode: ControlMode, s: &[u8], expected: &[u8]) -> bool {
+    let answer = checked(RecordBatch::check(mode, s));
     spells(expected, &answer)
 }
 
 // On refusals and where there is no room a case has no rows, so that all numbers of the tables have to stand as they
 // were.
 fn read_is(
+    mode: ControlMode,
     s: &[u8],
     room: Room,
     expected: &[u8],
@@ -159,6 +162,7 @@ fn read_is(
     mark(records, RECORD_MARK);
     mark(headers, HEADER_MARK);
     let answer = read(RecordBatch::read(
+        mode,
         s,
         &mut records[..record_room],
         &mut headers[..header_room],

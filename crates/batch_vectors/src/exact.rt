@@ -3,9 +3,10 @@ use batches::RecordBatch;
 use cases::text::Spelled;
 use cases::text::unsigned;
 use cases::text::word;
+use layout::ControlMode;
 
 // canonical HEX K: the first K bytes are canonical, and no other start is. K is 0 where none is.
-pub fn agrees(s: &[u8], line: &[u8]) -> bool {
+pub fn agrees(mode: ControlMode, s: &[u8], line: &[u8]) -> bool {
     let Spelled::Count(whole) = unsigned(word(line, 2)) else {
         return false;
     };
@@ -14,7 +15,7 @@ pub fn agrees(s: &[u8], line: &[u8]) -> bool {
     }
     let mut k = 0;
     while k <= s.len() {
-        if RecordBatch::is_canonical(&s[..k]) != (0 < k && k == whole) {
+        if RecordBatch::is_canonical(mode, &s[..k]) != (0 < k && k == whole) {
             return false;
         }
         k += 1;

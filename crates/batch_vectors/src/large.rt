@@ -11,6 +11,7 @@ use cases::outputs::is_left;
 use cases::tables::fill;
 use cases::text::Spelled;
 use cases::text::words_from;
+use layout::ControlMode;
 use layout::RecordBatchTimestampType;
 
 // How many bytes the source has, and each of them: no key may begin with it.
@@ -35,7 +36,7 @@ struct Rows {
 }
 
 // large RECORDS HEADERS KEY VALUE NUMBER SIZE
-pub fn agrees(line: &[u8]) -> bool {
+pub fn agrees(mode: ControlMode, line: &[u8]) -> bool {
     let mut n = [0i64; NUMBERS];
     let Spelled::Count(count) = fill(words_from(line, 1), &mut n) else {
         return false;
@@ -46,10 +47,10 @@ pub fn agrees(line: &[u8]) -> bool {
         last_key: n[2],
         last_value: n[3],
     };
-    count == NUMBERS && with_tables(rows, n[4], Integer::from_i64(n[5]))
+    count == NUMBERS && with_tables(mode, rows, n[4], Integer::from_i64(n[5]))
 }
 
-fn with_tables(rows: Rows, number: i64, size: Integer) -> bool {
+fn with_tables(mode: ControlMode, rows: Rows, number: i64, size: Integer) -> bool {
     let mut records = [0i64; TABLE];
     let mut headers = [0i64; TABLE];
     let source = [TAIL; SOURCE];
@@ -57,6 +58,7 @@ fn with_tables(rows: Rows, number: i64, size: Integer) -> bool {
     put_rows(&mut records, rows, true);
     put_rows(&mut headers, rows, false);
     is_written(
+        mode,
         records_of(rows),
         &records,
         &headers,
@@ -133,6 +135,7 @@ fn records_of(rows: Rows) -> ControlBatchOrRecords {
 
 // Where batchLength holds all, the output is too short for it; and it always stays as it is.
 fn is_written(
+    mode: ControlMode,
     kind: ControlBatchOrRecords,
     records: &[i64],
     headers: &[i64],
@@ -143,8 +146,8 @@ fn is_written(
     let mut output = [0u8; OUTPUT];
     blot(&mut output);
     let batch = batch(Integer::from_u64(0), RecordBatchTimestampType::CreateTime);
-    let measured = batch.measure(0, kind, records, headers, source);
-    let written = batch.write(0, kind, records, headers, source, &mut output);
+    let measured = batch.measure(mode, 0, kind, records, headers, source);
+    let written = batch.write(mode, 0, kind, records, headers, source, &mut output);
     is_answer(measured, number, size)
         && is_answer(written, written_number(number), 0)
         && is_left(&output, 0, b"")

@@ -14,6 +14,7 @@ use cases::text::before;
 use cases::text::hexadecimal;
 use cases::text::word;
 use cases::text::words_from;
+use layout::ControlMode;
 use layout::RecordBatchTimestampType;
 use markers::ControlBatchRecord;
 use writing::Written;
@@ -40,6 +41,7 @@ const OF_RECORDS: usize = 4;
 // What is written.
 enum Task {
     Batch {
+        mode: ControlMode,
         batch: RecordBatch,
         codec: u8,
         kind: ControlBatchOrRecords,
@@ -58,13 +60,13 @@ struct Asked {
 }
 
 // write SOURCE BYTES CODEC KIND COUNT FIELDS.. NUMBER|ROWS|ROWS
-pub fn batch_agrees(source: &[u8], line: &[u8]) -> bool {
+pub fn batch_agrees(mode: ControlMode, source: &[u8], line: &[u8]) -> bool {
     let mut numbers = [0i64; OF_BATCH];
     let n = before(line, b'|');
     let Spelled::Count(count) = fill(words_from(&line[..n], 3), &mut numbers) else {
         return false;
     };
-    count == OF_BATCH && with_bytes(batch_asked(&numbers), source, line)
+    count == OF_BATCH && with_bytes(batch_asked(mode, &numbers), source, line)
 }
 
 // write-records SOURCE BYTES FIRST COUNT AT NUMBER|ROWS|ROWS
@@ -77,7 +79,7 @@ pub fn records_agree(source: &[u8], line: &[u8]) -> bool {
     count == OF_RECORDS && with_bytes(records_asked(&numbers), source, line)
 }
 
-fn batch_asked(n: &[i64; OF_BATCH]) -> Asked {
+fn batch_asked(mode: ControlMode, n: &[i64; OF_BATCH]) -> Asked {
     let batch = RecordBatch {
         base_offset: n[3],
         partition_leader_epoch: Integer::from_i64(n[4]).to_i32(),
@@ -91,6 +93,7 @@ fn batch_asked(n: &[i64; OF_BATCH]) -> Asked {
         is_transactional: n[12] == 1,
     };
     let task = Task::Batch {
+        mode,
         batch,
         codec: Integer::from_i64(n[0]).to_u8(),
         kind: kind_of(n[1], n[2]),
@@ -184,9 +187,12 @@ fn is_written(a: Asked, records: &[i64], headers: &[i64], source: &[u8], bytes: 
 
 fn measure(task: Task, records: &[i64], headers: &[i64], source: &[u8]) -> Written {
     match task {
-        Task::Batch { batch, codec, kind } => {
-            batch.measure(codec, kind, records, headers, source)
-        }
+        Task::Batch {
+            mode,
+            batch,
+            codec,
+            kind,
+        } => { batch.measure(mode, codec, kind, records, headers, source) }
         Task::Records {
             first_header_row,
             count,
@@ -203,9 +209,12 @@ fn write(
     output: &mut [u8],
 ) -> Written {
     match task {
-        Task::Batch { batch, codec, kind } => {
-            batch.write(codec, kind, records, headers, source, output)
-        }
+        Task::Batch {
+            mode,
+            batch,
+            codec,
+            kind,
+        } => { batch.write(mode, codec, kind, records, headers, source, output) }
         Task::Records {
             first_header_row,
             count,
@@ -226,6 +235,7 @@ fn write(
 fn start_of(task: Task) -> usize {
     match task {
         Task::Batch {
+            mode: _,
             batch: _,
             codec: _,
             kind: _,
@@ -301,10 +311,11 @@ fn has_room(room: usize, start: usize, bytes: &[u8]) -> bool {
 fn comes_back(task: Task, bytes: &[u8]) -> bool {
     match task {
         Task::Batch {
+            mode,
             batch: _,
             codec: _,
             kind: _,
-        } => batch_comes_back(bytes),
+        } => batch_comes_back(mode, bytes),
         Task::Records {
             first_header_row: _,
             count,
@@ -314,10 +325,10 @@ fn comes_back(task: Task, bytes: &[u8]) -> bool {
 }
 
 // Whether bytes are canonical, are read, and are written again from what was read.
-fn batch_comes_back(bytes: &[u8]) -> bool {
+fn batch_comes_back(mode: ControlMode, bytes: &[u8]) -> bool {
     let mut records = [0i64; MOST];
     let mut headers = [0i64; MOST];
-    match RecordBatch::read(bytes, &mut records, &mut headers) {
+    match RecordBatch::read(mode, bytes, &mut records, &mut headers) {
         BatchRead::Accepted {
             batch,
             kind,
@@ -326,9 +337,9 @@ fn batch_comes_back(bytes: &[u8]) -> bool {
         } => {
             let mut output = [0u8; LONGEST];
             blot(&mut output);
-            let w = batch.write(0, kind, &records, &headers, bytes, &mut output);
+            let w = batch.write(mode, 0, kind, &records, &headers, bytes, &mut output);
             consumed == bytes.len()
-                && RecordBatch::is_canonical(bytes)
+                && RecordBatch::is_canonical(mode, bytes)
                 && is_answer(w, ACCEPTED, bytes.len())
                 && is_left(&output, 0, bytes)
         }

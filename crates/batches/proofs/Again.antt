@@ -16,6 +16,7 @@ use Rattle.writing.proofs.Single.{single-written}
 use Rattle.layout.specs.Batch.{Content, control, records}
 use Rattle.opening.specs.Judgement.{accepted, Accepted, Judgement, judge}
 use Rattle.markers.specs.Markers.{viewMarker}
+use Rattle.layout.specs.declared.ControlMode.{ControlMode}
 use Rattle.batches.specs.declared.RecordBatch.{RecordBatch}
 use Rattle.batches.specs.declared.ControlBatchOrRecords.{ControlBatchOrRecords}
 use Rattle.batches.specs.declared.BatchRead.{BatchRead}
@@ -38,21 +39,21 @@ same-wanted (ControlBatchOrRecords.ControlBatch m) (records rs) e f = cc
 same-wanted (ControlBatchOrRecords.Records n) (control m) e f = cc
 same-wanted (ControlBatchOrRecords.Records n) (records rs) e f = ap rows f
 
-module _ (s : List ℕ) (t : Tables) (o : ReadOutcome) (b : RecordBatch) (kind : ControlBatchOrRecords) (headers consumed : ℕ) where
+module _ (mode : ControlMode) (s : List ℕ) (t : Tables) (o : ReadOutcome) (b : RecordBatch) (kind : ControlBatchOrRecords) (headers consumed : ℕ) where
   pub record Again : Type 0 where
     pub batch : Accepted
-    pub judged : judge s ≡ accepted batch
-    pub gives : batchGiven (viewFields b) 0 (viewWanted kind) (o .tables) s ≡ given (rewritten s batch)
-    pub within : length (rewritten s batch) ≤ consumed
+    pub judged : judge mode s ≡ accepted batch
+    pub gives : batchGiven mode (viewFields b) 0 (viewWanted kind) (o .tables) s ≡ given (rewritten mode s batch)
+    pub within : length (rewritten mode s batch) ≤ consumed
 
   module _ (bytes : Bytes s) (e : o .result ≡ BatchRead.Accepted b kind headers consumed) where
     abbrev answered : Answer
     answered = accepts (viewFields b) (viewKind kind) (viewCount kind) headers consumed
 
-    room-again : (a : Accepted) → judge s ≡ accepted a → hasRoom (a .content) (a .firstHeader) (roomsOf t) ≡ true
+    room-again : (a : Accepted) → judge mode s ≡ accepted a → hasRoom (a .content) (a .firstHeader) (roomsOf t) ≡ true
         → answered ≡ acceptedAs a → o .tables ≡ stored (a .content) (a .firstHeader) t → Again
     room-again a j room is tables =
-        let x = own s a bytes j in
+        let x = own mode s a bytes j in
         let f : viewFields b ≡ a .fields = let w = ap (λ (y : Answer). y .fields) is in cc in
         let k : viewKind kind ≡ kindOf (a .content) = let w = ap (λ (y : Answer). y .kind) is in cc in
         let w = same-wanted kind (a .content) k (ap (λ (y : Answer). y .records) is) in
@@ -62,21 +63,21 @@ module _ (s : List ℕ) (t : Tables) (o : ReadOutcome) (b : RecordBatch) (kind :
           batch = a;
           judged = j;
           gives =
-              (λ i. batchGiven (f i) 0 (w i) (t′ i) s)
+              (λ i. batchGiven mode (f i) 0 (w i) (t′ i) s)
               ∙ own-given t x (ap (λ (row : ℕ). hasRoom (a .content) row (roomsOf t)) (sym (x .first)) ∙ room);
           within = rw n (x .within);
         }
 
-    goes-again : (j : Judgement) → judge s ≡ j → Goes t o j → Again
+    goes-again : (j : Judgement) → judge mode s ≡ j → Goes t o j → Again
     goes-again _ j (wanting a _) = none-not-some (ap (λ (y : Answer). y .fields) (sym a ∙ ap viewRead e))
     goes-again _ j (refusing a _) = none-not-some (ap (λ (y : Answer). y .fields) (sym a ∙ ap viewRead e))
     goes-again _ j (roomy {b = c} room a tables) = room-again c j room (sym (ap viewRead e) ∙ a) tables
     goes-again _ j (cramped _ a _) = none-not-some (ap (λ (y : Answer). y .fields) (sym a ∙ ap viewRead e))
 
-    pub again : ReadPromise s t o → Again
-    again p = goes-again (judge s) refl (goes (judge s) t o (p .by))
+    pub again : ReadPromise mode s t o → Again
+    again p = goes-again (judge mode s) refl (goes (judge mode s) t o (p .by))
 
 pub rewritable : Rewritable
-rewritable s t o b kind headers consumed r p e m =
-    let x = again s t o b kind headers consumed (p .lent) e p in
-    (length (rewritten s (x .batch)), single-written _ r (Written.Bytes _) (m ∙ ap measured (x .gives)) refl, x .within)
+rewritable mode s t o b kind headers consumed r p e m =
+    let x = again mode s t o b kind headers consumed (p .lent) e p in
+    (length (rewritten mode s (x .batch)), single-written _ r (Written.Bytes _) (m ∙ ap measured (x .gives)) refl, x .within)

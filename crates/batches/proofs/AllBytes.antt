@@ -2,7 +2,7 @@
 -- what follows them. Assumes nothing.
 use Prim.Native.Nat.{ℕ}
 use mathlib.Core.Path.{sym, subst}
-use mathlib.Core.Bool.{Bool}
+use mathlib.Core.Bool.{Bool, true}
 use mathlib.Core.List.{List, [], _∷_}
 use Rattle.numbers.specs.Bytes.{Bytes}
 use Rattle.numbers.specs.Concat.{concat}
@@ -14,6 +14,8 @@ use Rattle.records.proofs.AllBytes.{records-bytes, shown-of-bytes}
 use Rattle.layout.specs.Table.{uncountedFields, uncheckedFields, checkedFields}
 use Rattle.layout.specs.Batch.{Content, control, records, Batch}
 use Rattle.layout.specs.Format.{ContentBytes, BatchBytes}
+use Rattle.layout.specs.declared.ControlMode.{ControlMode}
+use Rattle.markers.proofs.Forms.{forms-lawful}
 use Rattle.batches.specs.Placed.{shownContent}
 
 pub concat-bytes : (xs : List (List ℕ)) → Each Bytes xs → Bytes (concat xs)
@@ -21,12 +23,13 @@ unfolding Each concat
 concat-bytes [] each = no-bytes
 concat-bytes (x ∷ rest) (b, each) = joined-bytes x (concat rest) b (concat-bytes rest each)
 
-pub content-bytes : (strict : Bool) (s bs : List ℕ) (c : Content RecordSpans) → Bytes s → ContentBytes strict bs (shownContent s c) → Bytes bs
-content-bytes strict s bs (control m) b g =
-    subst Bytes (sym (g .is)) (joined-bytes (g .version) (g .kind) (integer-bytes (g .versioned)) (integer-bytes (g .typed)))
-content-bytes strict s bs (records rs) b g = records-bytes g (shown-of-bytes s b rs)
+pub content-bytes : (mode : ControlMode) (s bs : List ℕ) (c : Content RecordSpans) → Bytes s → ContentBytes mode true bs (shownContent s c) → Bytes bs
+content-bytes mode s bs (control m) b g =
+    let form = forms-lawful mode in
+    subst Bytes (sym (form .strict bs m .0 g)) (form .bytes m)
+content-bytes mode s bs (records rs) b g = records-bytes g (shown-of-bytes s b rs)
 
-module _ {strict : Bool} {bs : List ℕ} {b : Batch Record} (g : BatchBytes strict bs b) (body : Bytes (g .body)) where
+module _ {mode : ControlMode} {strict : Bool} {bs : List ℕ} {b : Batch Record} (g : BatchBytes mode strict bs b) (body : Bytes (g .body)) where
   checked-bytes : Bytes (g .checked)
   unfolding Each
   checked-bytes =

@@ -19,6 +19,7 @@ use Rattle.writing.proofs.Outcomes.{given-same}
 use Rattle.layout.specs.Batch.{Batch}
 use Rattle.layout.specs.Format.{BatchBytes}
 use Rattle.opening.proofs.Verdicts.{same-accepted}
+use Rattle.layout.specs.declared.ControlMode.{ControlMode}
 use Rattle.batches.specs.Placed.{placedBatch, shownBatch}
 use Rattle.batches.specs.Writer.{writtenBatch}
 use Rattle.batches.specs.Promises.{Canonical}
@@ -29,45 +30,45 @@ use Rattle.batches.proofs.Own.{rewritten, Own, own, own-tables-given}
 use Rattle.batches.proofs.Again.{again}
 
 -- what is written of the batch that canonical bytes show is these bytes
-module _ (s : List ℕ) (bytes : Bytes s) (c : Canonical s) where
-  canonical-own : Own s (c .batch)
-  canonical-own = own s (c .batch) bytes (c .judged)
+module _ (mode : ControlMode) (s : List ℕ) (bytes : Bytes s) (c : Canonical mode s) where
+  canonical-own : Own mode s (c .batch)
+  canonical-own = own mode s (c .batch) bytes (c .judged)
 
-  canonical-written : rewritten s (c .batch) ≡ s
+  canonical-written : rewritten mode s (c .batch) ≡ s
   canonical-written = given-same (sym (own-tables-given canonical-own) ∙ c .rewritten)
 
-  canonical-encodes : BatchBytes true s (shownBatch s (c .batch))
-  canonical-encodes = subst (λ (bs : List ℕ). BatchBytes true bs (shownBatch s (c .batch))) canonical-written (canonical-own .encodes)
+  canonical-encodes : BatchBytes mode true s (shownBatch s (c .batch))
+  canonical-encodes = subst (λ (bs : List ℕ). BatchBytes mode true bs (shownBatch s (c .batch))) canonical-written (canonical-own .encodes)
 
-strict-canonical : (s : List ℕ) (b : Batch Record) → Bytes s → BatchBytes true s b → Canonical s
-strict-canonical s b bytes g =
-    let (judged, shows) = complete true s 0 0 (length s) s b (whole s) g in
-    let o = own s (placedBatch 0 0 g) bytes judged in
+strict-canonical : (mode : ControlMode) (s : List ℕ) (b : Batch Record) → Bytes s → BatchBytes mode true s b → Canonical mode s
+strict-canonical mode s b bytes g =
+    let (judged, shows) = complete mode true s 0 0 (length s) s b (whole s) g in
+    let o = own mode s (placedBatch 0 0 g) bytes judged in
     record {
       batch = placedBatch 0 0 g;
       judged = judged;
       whole = refl;
-      rewritten = own-tables-given o ∙ ap given (ap writtenBatch shows ∙ sym (batch-written g));
+      rewritten = own-tables-given o ∙ ap given (ap (writtenBatch mode) shows ∙ sym (batch-written g));
     }
 
-pub canonical-is-strict : (s : List ℕ) → Bytes s → Exactly (Canonical s) ((b : Batch Record) × BatchBytes true s b)
-canonical-is-strict s bytes =
-    (λ c. (shownBatch s (c .batch), canonical-encodes s bytes c), λ (b, g). strict-canonical s b bytes g)
+pub canonical-is-strict : (mode : ControlMode) (s : List ℕ) → Bytes s → Exactly (Canonical mode s) ((b : Batch Record) × BatchBytes mode true s b)
+canonical-is-strict mode s bytes =
+    (λ c. (shownBatch s (c .batch), canonical-encodes mode s bytes c), λ (b, g). strict-canonical mode s b bytes g)
 
 pub canonical-strict : CanonicalStrict
-canonical-strict s r p =
-    let (x, y) = canonical-is-strict s (p .lent) in
+canonical-strict mode s r p =
+    let (x, y) = canonical-is-strict mode s (p .lent) in
     (λ e. x (p .says .0 e), λ g. p .says .1 (y g))
 
 -- ---- read and written again
 
 pub canonical-again : CanonicalAgain
-canonical-again s t o b kind headers consumed out w canonical p e h q =
+canonical-again mode s t o b kind headers consumed out w canonical p e h q =
     let bytes = canonical .lent in
     let c = canonical .says .0 refl in
-    let x = again s t o b kind headers consumed bytes e p in
+    let x = again mode s t o b kind headers consumed bytes e p in
     let same : x .batch ≡ c .batch = same-accepted (sym (x .judged) ∙ c .judged) in
-    let gives = x .gives ∙ ap given (ap (rewritten s) same ∙ canonical-written s bytes c) in
+    let gives = x .gives ∙ ap given (ap (rewritten mode s) same ∙ canonical-written mode s bytes c) in
     let room = le-leb (0 + length s) (length out) (omega arith) in (
       single-written _ (w .result) (Written.Bytes (length s)) (q .by .answer ∙ ap (answerDue 0 out) gives ∙ rw room) refl,
       q .by .output ∙ ap (outputDue 0 out) gives ∙ rw (room, zero-add),

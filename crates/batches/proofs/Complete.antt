@@ -22,9 +22,10 @@ use Rattle.records.proofs.Shows.{records-shows}
 use Rattle.layout.specs.Table.{table}
 use Rattle.layout.specs.Batch.{Marker, Content, control, records, Batch}
 use Rattle.layout.specs.Format.{howMany, Counts, exactly, minusOne, markerType, MarkerBytes, ContentBytes, BatchBytes}
-use Rattle.opening.specs.Judgement.{accepted, Attributes, numberIn, attributesIn, fieldsIn, totalAt, openedAt, contentAt, wholeAt, judgeWith, bareMarkerAt, apart}
+use Rattle.opening.specs.Judgement.{wayOf, accepted, Attributes, numberIn, attributesIn, fieldsIn, totalAt, openedAt, contentAt, wholeAt, judgeWith, apart}
 use Rattle.opening.proofs.Tests.{Says, there, opened, total-is, opening-is}
-use Rattle.opening.proofs.MarkerFaults.{marker-again}
+use Rattle.layout.specs.declared.ControlMode.{ControlMode}
+use Rattle.markers.proofs.Forms.{forms-lawful}
 use Rattle.batches.specs.Placed.{placedContent, placedBatch, shownContent}
 use Rattle.batches.specs.Statements.{Complete}
 use Rattle.batches.proofs.Apart.{controls, saidBy, attributes-apart}
@@ -32,28 +33,16 @@ use Rattle.batches.proofs.Parts.{parts-stand, fixed-there, counted-enou
 
 -- ---- the marker, or the records
 
-marker-reads : {s : List ℕ} {p : ℕ} {bs : List ℕ} {m : Marker} → Stands s p (length s) bs → MarkerBytes bs m
-    → bareMarkerAt s p ≡ ok m (length s)
-unfolding bareMarkerAt
-marker-reads {s} {p} {bs} {m} x g =
-    let y = subst (Stands s p (length s)) (g .is) x in
-    rw (
-      integer-complete 2 s p _ (g .version) (pos 0) (omega arith) (first (g .version) (g .kind) y) (g .versioned),
-      integer-complete 2 s _ (length s) (g .kind) (pos (markerType m)) (omega arith) (second (g .version) (g .kind) y) (g .typed),
-      marker-again m (length s),
-      le-ltb (length s) (length s) (omega arith),
-    )
+content-reads : (mode : ControlMode) (strict : Bool) {s : List ℕ} {p : ℕ} {bs : List ℕ} (c : Content Record) → Stands s p (length s) bs
+    → (g : ContentBytes mode strict bs c)
+    → contentAt (wayOf mode) (controls c) s (howMany c) p ≡ ok (placedContent mode strict bs c p g) (length s)
+content-reads mode strict {s} {p} {bs} (control m) x g = rw (forms-lawful mode .complete strict s p bs m x g)
+content-reads mode strict {s} {p} {bs} (records rs) x g = rw (records-complete strict s p bs rs x g .0)
 
-content-reads : (strict : Bool) {s : List ℕ} {p : ℕ} {bs : List ℕ} (c : Content Record) → Stands s p (length s) bs
-    → (g : ContentBytes strict bs c)
-    → contentAt bareMarkerAt (controls c) s (howMany c) p ≡ ok (placedContent strict bs c p g) (length s)
-content-reads strict (control m) x g = rw (marker-reads x g)
-content-reads strict {s} {p} {bs} (records rs) x g = rw (records-complete strict s p bs rs x g .0)
-
-content-shows : (strict : Bool) {s : List ℕ} {p q : ℕ} {bs : List ℕ} (c : Content Record) → Stands s p q bs → (g : ContentBytes strict bs c)
-    → shownContent s (placedContent strict bs c p g) ≡ c
-content-shows strict (control m) x g = refl
-content-shows strict (records rs) x g = ap records (records-shows x g)
+content-shows : (mode : ControlMode) (strict : Bool) {s : List ℕ} {p q : ℕ} {bs : List ℕ} (c : Content Record) → Stands s p q bs → (g : ContentBytes mode strict bs c)
+    → shownContent s (placedContent mode strict bs c p g) ≡ c
+content-shows mode strict (control m) x g = refl
+content-shows mode strict (records rs) x g = ap records (records-shows x g)
 
 -- ---- the tests before them
 
@@ -66,7 +55,7 @@ one-marker : {R : Type 0} (c : Content R) {t : Bool} → t ≡ controls c → ((
 one-marker (control m) e = inl (e, refl)
 one-marker (records rs) e = inr e
 
-module _ {strict : Bool} {s : List ℕ} {at q : ℕ} {bs : List ℕ} {b : Batch Record} (x : Stands s at q bs) (g : BatchBytes strict bs b) where
+module _ {mode : ControlMode} {strict : Bool} {s : List ℕ} {at q : ℕ} {bs : List ℕ} {b : Batch Record} (x : Stands s at q bs) (g : BatchBytes mode strict bs b) where
   total-reads : totalAt s at ≡ accepted (length bs)
   total-reads =
       let y = parts-stand x g in
@@ -106,25 +95,25 @@ module _ {strict : Bool} {s : List ℕ} {at q : ℕ} {bs : List ℕ} {b : Batch 
 
 -- ---- the batch's own bytes, which end where the list ends
 
-whole-reads : {strict : Bool} {s : List ℕ} {at : ℕ} {bs : List ℕ} {b : Batch Record} (first : ℕ) → Stands s at (length s) bs
-    → (g : BatchBytes strict bs b)
-    → wholeAt bareMarkerAt s at first (length bs) ≡ ok (placedBatch at first g) (length s)
+whole-reads : {mode : ControlMode} {strict : Bool} {s : List ℕ} {at : ℕ} {bs : List ℕ} {b : Batch Record} (first : ℕ) → Stands s at (length s) bs
+    → (g : BatchBytes mode strict bs b)
+    → wholeAt (wayOf mode) s at first (length bs) ≡ ok (placedBatch at first g) (length s)
 unfolding wholeAt
-whole-reads {strict} {s} {at} {bs} {b} first x g =
+whole-reads {mode} {strict} {s} {at} {bs} {b} first x g =
     let y = parts-stand x g in
     rw (
       eq-eqb _ _ (y .crc ∙ ap crc32c (sym (all-left (y .checked)))),
       opening-reads x g,
       fields-read x g,
       control-read x g,
-      content-reads strict (b .content) (y .body) (g .holds),
+      content-reads mode strict (b .content) (y .body) (g .holds),
     )
 
 pub complete : Complete
 unfolding judgeWith
-complete strict s at first q bs b x g =
+complete mode strict s at first q bs b x g =
     let e : at + length bs ≡ q = sym (x .end) in
     let w = length-take-le q s (x .within) in
     let z : Stands (take q s) at (length (take q s)) bs = rw w (inside q x (omega arith)) in
-    let shows = content-shows strict (b .content) (parts-stand x g .body) (g .holds) in
+    let shows = content-shows mode strict (b .content) (parts-stand x g .body) (g .holds) in
     (rw (total-reads x g, e, whole-reads first z g), λ i. record { fields = b .fields; content = shows i })

@@ -1,7 +1,7 @@
 -- Each later number is given exactly where document 01 says: the places that refuse by it are the fixed part, the
 -- marker and the records, and the first fault of each is its refusal. Assumes nothing.
 use Prim.Native.Nat.{ℕ, _+_, _≤_, _<_}
-use mathlib.Core.Path.{_≡_, refl, sym, ap, subst, transport, transport⁻¹}
+use mathlib.Core.Path.{_≡_, refl, sym, ap, _∙_, subst, transport, transport⁻¹}
 use mathlib.Core.Bool.{Bool, true, false}
 use mathlib.Core.Logic.{_⊎_, inl, inr}
 use mathlib.Core.List.{List}
@@ -12,21 +12,25 @@ use native.Mathlib.Nat.{zero-add}
 use lib.ListN.{length, take}
 use Rattle.numbers.specs.Bytes.{Bytes}
 use Rattle.primitives.specs.Step.{ok, no}
+use Rattle.primitives.specs.Stands.{Encoding}
 use Rattle.primitives.specs.Faults.{Wrong}
 use Rattle.primitives.proofs.Steps.{map-no}
 use Rattle.primitives.proofs.Windows.{window-bytes}
+use Rattle.records.specs.Format.{RecordBytes}
 use Rattle.records.specs.Judgement.{recordsAt}
 use Rattle.records.specs.Faults.{RecordsWrong}
 use Rattle.records.proofs.RecordFaults.{first-faults}
+use Rattle.records.proofs.FaultNumbers.{record-fault-numbers, first-fault-numbers}
+use Rattle.layout.specs.declared.ControlMode.{ControlMode}
 use Rattle.layout.specs.Batch.{control, records}
-use Rattle.opening.specs.Judgement.{refused, attributesIn, Control, contentAt, bareMarkerAt, judge}
-use Rattle.opening.specs.Faults.{FixedWrong, BareMarkerWrong}
+use Rattle.opening.specs.Judgement.{refused, attributesIn, Control, contentAt, wayOf, judge}
+use Rattle.opening.specs.Faults.{FixedWrong, KeyedMarkerWrong, wrongOf}
 use Rattle.opening.specs.Statements.{FaultsOf}
 use Rattle.opening.proofs.Tests.{low, unknown, there, Openings, openings, opening-is, opened}
 use Rattle.opening.proofs.FixedFaults.{opened-faults}
-use Rattle.opening.proofs.MarkerFaults.{bare-marker-faults}
+use Rattle.markers.proofs.Forms.{forms-lawful}
 use Rattle.batches.specs.Statements.{Whole, Checked, codec, CountIs}
-use Rattle.batches.specs.FirstFaults.{BatchFaultsWith, BatchFaults, FirstFault, JudgedFaults}
+use Rattle.batches.specs.FirstFaults.{BatchFaultsWith, BatchFaults, FirstFault, JudgedFaults, UnknownKey, KeyedUnknown}
 use Rattle.batches.specs.Faults.{BatchWrong}
 use Rattle.batches.proofs.Refused.{Right, WholeRefusal, differs, unopened, unread, Refusal, unsized, sized, refusal, refused-is}
 use Rattle.batches.proofs.Numbers.{window, attributes-same, count-same, right-same, window-length, frame, front-refused, numbers}
@@ -49,10 +53,10 @@ records-content way t s m p e f = rw (e, f)
 
 -- ---- the batch
 
-module _ (way : Control) (W : Wrong) (faults : FaultsOf way W) (s : List ℕ) (b : Bytes s) where
-  same-window : (n : ℕ) → window s n ≡ take (12 + n) s
-  same-window n = ap (λ (e : ℕ). take e s) (zero-add (12 + n))
+same-window : (s : List ℕ) (n : ℕ) → window s n ≡ take (12 + n) s
+same-window s n = ap (λ (e : ℕ). take e s) (zero-add (12 + n))
 
+module _ (way : Control) (W : Wrong) (faults : FaultsOf way W) (s : List ℕ) (b : Bytes s) where
   fixed-wrong : {n k : ℕ} → Checked s n → FixedWrong (window s n) 0 k → BatchWrong W s k
   fixed-wrong c (FixedWrong.past (inl h)) = BatchWrong.fixed c (inl (omega (arith, window-length c)))
   fixed-wrong {n} c (FixedWrong.past (inr (h, f))) =
@@ -68,13 +72,13 @@ module _ (way : Control) (W : Wrong) (faults : FaultsOf way W) (s : List ℕ) (b
       let e = attributes-same s n (omega arith) in
       let x = faults (window s n) 61 k (window-bytes (0 + (12 + n)) s b) h .0 (content-control way _ (window s n) m 61 t g) in
       BatchWrong.marker c l (rw e at d) (rw e at t) (subst (CountIs s) one (rw (count-same s n l) at w))
-      (subst (λ (v : List ℕ). W v 61 k) (same-window n) x)
+      (subst (λ (v : List ℕ). W v 61 k) (same-window s n) x)
   content-wrong {n} {k = k} c (opened {n = m} h d w (inr t)) g =
       let l : 49 ≤ n = omega (arith, window-length c) in
       let e = attributes-same s n (omega arith) in
       let x = first-faults (window s n) m 61 k (window-bytes (0 + (12 + n)) s b) h .0 (content-records way _ (window s n) m 61 t g) in
       BatchWrong.records c l (rw e at d) (rw e at t) (rw (count-same s n l) at w)
-      (subst (λ (v : List ℕ). RecordsWrong m v 61 k) (same-window n) x)
+      (subst (λ (v : List ℕ). RecordsWrong m v 61 k) (same-window s n) x)
 
   whole-wrong : {n k : ℕ} → Whole s n → WholeRefusal way (window s n) 0 k → 8 ≤ k → BatchWrong W s k
   whole-wrong a (differs c) l = absurd (omega arith)
@@ -114,7 +118,7 @@ module _ (way : Control) (W : Wrong) (faults : FaultsOf way W) (s : List ℕ) (b
   batch-refused (BatchWrong.marker {n} {k} c l d t w x) =
       let e = attributes-same s n (omega arith) in
       let h : 61 ≤ length (window s n) = omega (arith, window-length c) in
-      let y = subst (λ (v : List ℕ). W v 61 k) (sym (same-window n)) x in
+      let y = subst (λ (v : List ℕ). W v 61 k) (sym (same-window s n)) x in
       let i = faults (window s n) 61 k (window-bytes (0 + (12 + n)) s b) h .1 y in
       sized (frame (c .whole))
       (unread (right-there c) (opening-is (window s n) 0 (ok 1 61) (opened h (rw e d) (rw (count-same s n l) w) (inl (rw e t, refl))))
@@ -122,7 +126,7 @@ module _ (way : Control) (W : Wrong) (faults : FaultsOf way W) (s : List ℕ) (b
   batch-refused (BatchWrong.records {n} {m} {k} c l d t w x) =
       let e = attributes-same s n (omega arith) in
       let h : 61 ≤ length (window s n) = omega (arith, window-length c) in
-      let y = subst (λ (v : List ℕ). RecordsWrong m v 61 k) (sym (same-window n)) x in
+      let y = subst (λ (v : List ℕ). RecordsWrong m v 61 k) (sym (same-window s n)) x in
       let i = first-faults (window s n) m 61 k (window-bytes (0 + (12 + n)) s b) h .1 y in
       sized (frame (c .whole))
       (unread (right-there c) (opening-is (window s n) 0 (ok m 61) (opened h (rw e d) (rw (count-same s n l) w) (inr (rw e t))))
@@ -134,21 +138,58 @@ batch-faults-with way W faults s first k b l = (
   λ x. refused-is way s 0 first (batch-refused way W faults s b x),
 )
 
--- ---- with bare markers
+-- ---- by the mode
 
 pub batch-faults : BatchFaults
-batch-faults s k b l = batch-faults-with bareMarkerAt BareMarkerWrong bare-marker-faults s 0 k b l
+batch-faults mode s k b l = batch-faults-with (wayOf mode) (wrongOf mode) (forms-lawful mode .faults) s 0 k b l
 
 pub judged-faults : JudgedFaults
-judged-faults s n b = (told, is-told)
+judged-faults mode s n b = (told, is-told)
   where
-    told : judge s ≡ refused n → FirstFault s n
+    told : judge mode s ≡ refused n → FirstFault mode s n
     told e =
         elim (decLe 8 n) [
-          | yes l ↦ FirstFault.after (batch-faults s n b l .0 e)
-          | Dec.no l ↦ FirstFault.front (numbers s n (omega arith) .0 e)
+          | yes l ↦ FirstFault.after (batch-faults mode s n b l .0 e)
+          | Dec.no l ↦ FirstFault.front (numbers mode s n (omega arith) .0 e)
         ]
 
-    is-told : {n : ℕ} → FirstFault s n → judge s ≡ refused n
-    is-told (FirstFault.front x) = front-refused x
-    is-told (FirstFault.after x) = refused-is bareMarkerAt s 0 0 (batch-refused bareMarkerAt BareMarkerWrong bare-marker-faults s b x)
+    is-told : {n : ℕ} → FirstFault mode s n → judge mode s ≡ refused n
+    is-told (FirstFault.front x) = front-refused mode x
+    is-told (FirstFault.after x) = refused-is (wayOf mode) s 0 0 (batch-refused (wayOf mode) (wrongOf mode) (forms-lawful mode .faults) s b x)
+
+-- ---- 12 in keyed mode
+
+-- a list whose first bytes are a whole batch has that many
+cut-length : {s : List ℕ} {n : ℕ} → Checked s n → length (take (12 + n) s) ≡ 12 + n
+cut-length {s} {n} c = ap length (sym (same-window s n)) ∙ window-length c
+
+pub keyed-unknown : KeyedUnknown
+unfolding wrongOf
+keyed-unknown s b = (λ e. told (batch-faults ControlMode.Keyed s 12 b (omega arith) .0 e), is-told)
+  where
+    told-marker : {n : ℕ} → Checked s n → 49 ≤ n → codec s ≡ 0 → attributesIn s 0 .control ≡ true → CountIs s 1
+        → KeyedMarkerWrong (take (12 + n) s) 61 12 → UnknownKey s
+    told-marker c l d t w (KeyedMarkerWrong.one x) = absurd (record-fault-numbers _ _ _ x .2 refl)
+    told-marker {n} c l d t w (KeyedMarkerWrong.key {r} x no-marker) =
+        record {
+          batchLength = n;
+          checked = c;
+          fields-there = l;
+          uncompressed = d;
+          control = t;
+          counted = w;
+          shows = r;
+          stands = subst (λ (q : ℕ). Encoding (RecordBytes false) (take (12 + n) s) 61 q r) (cut-length c) x;
+          unknown = no-marker;
+        }
+
+    told : BatchWrong KeyedMarkerWrong s 12 → UnknownKey s
+    told (BatchWrong.marker c l d t w x) = told-marker c l d t w x
+    told (BatchWrong.records c l d t w x) = absurd (first-fault-numbers _ _ _ _ x .2 refl)
+
+    is-told : UnknownKey s → judge ControlMode.Keyed s ≡ refused 12
+    is-told x =
+        let n = x .batchLength in
+        let stands = subst (λ (q : ℕ). Encoding (RecordBytes false) (take (12 + n) s) 61 q (x .shows)) (sym (cut-length (x .checked))) (x .stands) in
+        batch-faults ControlMode.Keyed s 12 b (omega arith) .1
+        (BatchWrong.marker (x .checked) (x .fields-there) (x .uncompressed) (x .control) (x .counted) (KeyedMarkerWrong.key stands (x .unknown)))

@@ -17,6 +17,7 @@ use Rattle.layout.specs.Table.{uncounted}
 use Rattle.layout.specs.Batch.{Fields}
 use Rattle.layout.specs.Time.{recordTime, viewTime}
 use Rattle.layout.specs.Fixed.{viewBatchFields}
+use Rattle.layout.specs.declared.ControlMode.{ControlMode}
 use Rattle.opening.specs.Judgement.{judgeAt}
 use Rattle.batches.specs.declared.RecordBatch.{RecordBatch}
 use Rattle.batches.specs.declared.ControlBatchOrRecords.{ControlBatchOrRecords}
@@ -40,17 +41,18 @@ module _ (s : List ℕ) (fits : (i : ℕ) → Fits w8 (getD s i 0)) where
   bytes-are : Bytes s
   bytes-are i = fits i .fits
 
-  pub check-lent : (r : BatchCheck) → viewCheck r ≡ answerWithRoom (judgeAt s 0 0) → CheckPromise s r
-  check-lent r e = record { lent = bytes-are; answer = e }
+  pub check-lent : (mode : ControlMode) (r : BatchCheck) → viewCheck r ≡ answerWithRoom (judgeAt mode s 0 0) → CheckPromise mode s r
+  check-lent mode r e = record { lent = bytes-are; answer = e }
 
-  pub read-lent : (t : Tables) (o : ReadOutcome) → ReadBy (judgeAt s 0 0) t o → ReadPromise s t o
-  read-lent t o e = record { lent = bytes-are; by = e }
+  pub read-lent : (mode : ControlMode) (t : Tables) (o : ReadOutcome) → ReadBy (judgeAt mode s 0 0) t o → ReadPromise mode s t o
+  read-lent mode t o e = record { lent = bytes-are; by = e }
 
   -- what is written by the fields as they are laid out
-  pub write-handed : (b : RecordBatch) (x : BatchFields) → Laid b x → (codec : ℕ) (kind : ControlBatchOrRecords) (t : Tables) (out : List ℕ)
-      (o : WriteOutcome) → WriteBy (batchGiven (viewBatchFields x) codec (viewWanted kind) t s) 0 out o → WritePromise b codec kind t s out o
-  write-handed b x laid codec kind t out o w =
+  pub write-handed : (mode : ControlMode) (b : RecordBatch) (x : BatchFields) → Laid b x → (codec : ℕ) (kind : ControlBatchOrRecords) (t : Tables) (out : List ℕ)
+      (o : WriteOutcome) → WriteBy (batchGiven mode (viewBatchFields x) codec (viewWanted kind) t s) 0 out o
+      → WritePromise mode b codec kind t s out o
+  write-handed mode b x laid codec kind t out o w =
       record {
         handed = record { fields = laid .widths; source = bytes-are };
-        by = subst (λ (x : Fields). WriteBy (batchGiven x codec (viewWanted kind) t s) 0 out o) (laid .same) w;
+        by = subst (λ (x : Fields). WriteBy (batchGiven mode x codec (viewWanted kind) t s) 0 out o) (laid .same) w;
       }

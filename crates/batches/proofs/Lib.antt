@@ -12,6 +12,7 @@ pub mod Filled
 pub mod Given
 pub mod Giving
 mod Handed
+pub mod Modes
 pub mod Numbers
 pub mod Only
 pub mod Own

@@ -17,34 +17,19 @@ use Rattle.primitives.proofs.Windows.{big-window}
 use Rattle.records.proofs.Refusals.{Refuses, refusal-within, and-then-refuses, pick-refuses, integer-refuses, records-refuses}
 use Rattle.layout.specs.Table.{Slot, table}
 use Rattle.layout.specs.Batch.{Marker, abort, commit}
-use Rattle.opening.specs.Judgement.{refused, accepted, unsignedIn, numberIn, attributesIn, is, below, Control, contentAt, markerOf, endedAt, bareMarkerAt, judge}
+use Rattle.opening.specs.Judgement.{wayOf, refused, accepted, unsignedIn, numberIn, attributesIn, is, below, Control, contentAt, judge}
 use Rattle.opening.proofs.Tests.{Totals, low, unknown, there, is-false, is-not, Openings, no-attributes, unknown-codec, no-fields, low-count, compressed, wrong-count}
+use Rattle.layout.specs.declared.ControlMode.{ControlMode}
+use Rattle.markers.proofs.Forms.{forms-lawful}
 use Rattle.batches.specs.Answers.{Standing}
-use Rattle.batches.specs.Statements.{Within, Refusals, BareMarkerWithin, Whole, sum, Checked, Below, FrontWrong, Numbers}
+use Rattle.batches.specs.Statements.{Within, Refusals, WaysWithin, Whole, sum, Checked, Below, FrontWrong, Numbers}
 use Rattle.batches.proofs.Refused.{Right, WholeRefusal, differs, unopened, unread, Refusal, unsized, sized, refusal, refused-is, content-no}
-
--- ---- the bare marker
-
-marker-of-refuses : (t : ℤ) (p : ℕ) → Refuses (markerOf t p)
-marker-of-refuses t p =
-    pick-refuses (is 0 t) (ok abort p) _ tt (pick-refuses (is 1 t) (ok commit p) (no 12) tt (omega arith, omega arith))
-
-ended-refuses : (s : List ℕ) (m : Marker) (p : ℕ) → Refuses (endedAt s m p)
-ended-refuses s m p = pick-refuses (ltb p (length s)) (no 13) (ok m p) (omega arith, omega arith) tt
-
-bare-marker-refuses : (s : List ℕ) (p : ℕ) → Refuses (bareMarkerAt s p)
-unfolding bareMarkerAt
-bare-marker-refuses s p =
-    and-then-refuses (integerAt 2 s p) _ (integer-refuses 2 s p) (λ version q.
-    pick-refuses (is 0 version) _ (no 12)
-    (and-then-refuses (andThen (integerAt 2 s q) markerOf) (endedAt s)
-    (and-then-refuses (integerAt 2 s q) markerOf (integer-refuses 2 s q) marker-of-refuses) (ended-refuses s)) (omega arith, omega arith))
 
 field-within : {n : ℕ} → (8 ≤ n) × (n ≤ 13) → Standing n
 field-within (f, g) = (omega arith, g)
 
-pub bare-marker-within : BareMarkerWithin
-bare-marker-within s p n e = field-within (refusal-within (bare-marker-refuses s p) e)
+pub ways-within : WaysWithin
+ways-within mode s p n e = field-within (forms-lawful mode .late s p n e)
 
 -- ---- none but 2 to 13
 
@@ -107,22 +92,26 @@ data Early (s : List ℕ) : ℕ → Type 0 where
   by-fields : {n k : ℕ} → Checked s n → Openings (window s n) 0 (no k) → Early s k
 
 -- the marker and the records refuse by later numbers
-content-late : (t : Bool) (s : List ℕ) (m p : ℕ) {k : ℕ} → contentAt bareMarkerAt t s m p ≡ no k → 8 ≤ k
-content-late t s m p e =
-    elim (content-no bareMarkerAt t s m p e) [
-      | inl f ↦ refusal-within (bare-marker-refuses s p) f .0
+content-late : (mode : ControlMode) (t : Bool) (s : List ℕ) (m p : ℕ) {k : ℕ} → contentAt (wayOf mode) t s m p ≡ no k → 8 ≤ k
+content-late mode t s m p e =
+    elim (content-no (wayOf mode) t s m p e) [
+      | inl f ↦ forms-lawful mode .late s p _ f .0
       | inr f ↦ refusal-within (records-refuses s m p) f .0
     ]
 
-module _ {s : List ℕ} where
-  whole-early : {n k : ℕ} → Whole s n → WholeRefusal bareMarkerAt (window s n) 0 k → k < 8 → Early s k
+pub frame : {s : List ℕ} {n : ℕ} → Whole s n → Totals s 0 (accepted (12 + n))
+frame a =
+    let f = a .framed in there (f .there) (f .length-is) (f .length-enough) (f .magic-is) (omega (arith, a .all-there))
+
+module _ (mode : ControlMode) {s : List ℕ} where
+  whole-early : {n k : ℕ} → Whole s n → WholeRefusal (wayOf mode) (window s n) 0 k → k < 8 → Early s k
   whole-early {n} a (differs c) l = by-checksum a (λ e. c (transport⁻¹ (right-same s n (a .framed .length-enough)) e))
   whole-early {n} a (unopened c f) l =
       by-fields (record { whole = a; crc-is = transport (right-same s n (a .framed .length-enough)) c }) f
   whole-early {n} a (unread {m} {p} c f g) l =
-      absurd (omega (arith, content-late (attributesIn (window s n) 0 .control) (window s n) m p g))
+      absurd (omega (arith, content-late mode (attributesIn (window s n) 0 .control) (window s n) m p g))
 
-  early : {k : ℕ} → Refusal bareMarkerAt s 0 k → k < 8 → Early s k
+  early : {k : ℕ} → Refusal (wayOf mode) s 0 k → k < 8 → Early s k
   early (unsized t) l = by-frame t
   early (sized (there {n} h e f m g) w) l =
       whole-early
@@ -132,11 +121,7 @@ module _ {s : List ℕ} where
       })
       w l
 
-  pub frame : {n : ℕ} → Whole s n → Totals s 0 (accepted (12 + n))
-  frame a =
-      let f = a .framed in there (f .there) (f .length-is) (f .length-enough) (f .magic-is) (omega (arith, a .all-there))
-
-  early-is : {k : ℕ} → Early s k → Refusal bareMarkerAt s 0 k
+  early-is : {k : ℕ} → Early s k → Refusal (wayOf mode) s 0 k
   early-is (by-frame t) = unsized t
   early-is (by-checksum {n} a c) =
       sized (frame a) (differs (λ e. c (transport (right-same s n (a .framed .length-enough)) e)))
@@ -200,8 +185,8 @@ module _ (s : List ℕ) where
       let e = attributes-same s n (omega arith) in
       by-fields c (wrong-count {n = m} (omega (arith, window-length c)) (rw e d) (rw e t) (rw (count-same s n l) w) f)
 
-pub front-refused : {s : List ℕ} {n : ℕ} → FrontWrong s n → judge s ≡ refused n
-front-refused {s} x = refused-is bareMarkerAt s 0 0 (early-is (told-early s x))
+pub front-refused : (mode : ControlMode) {s : List ℕ} {n : ℕ} → FrontWrong s n → judge mode s ≡ refused n
+front-refused mode {s} x = refused-is (wayOf mode) s 0 0 (early-is mode (told-early s x))
 
 pub numbers : Numbers
-numbers s n l = (λ e. early-told s (early (refusal bareMarkerAt s 0 0 e) (omega arith)) l, front-refused)
+numbers mode s n l = (λ e. early-told s (early mode (refusal (wayOf mode) s 0 0 e) (omega arith)) l, front-refused mode)

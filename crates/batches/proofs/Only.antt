@@ -18,6 +18,8 @@ use Rattle.records.proofs.Shortest.{run-shortest}
 use Rattle.layout.specs.Batch.{Content, control, records, Batch}
 use Rattle.layout.specs.Format.{Counts, exactly, ContentBytes, BatchBytes}
 use Rattle.markers.proofs.Encodes.{marker-written}
+use Rattle.layout.specs.declared.ControlMode.{ControlMode}
+use Rattle.markers.proofs.Forms.{forms-lawful}
 use Rattle.batches.specs.Writer.{writtenContent, checkedBytes, batchLengthOf, writtenBatch, mostLength}
 use Rattle.batches.specs.Rewriting.{WrittenShortest, WrittenOnly}
 use Rattle.batches.proofs.Encodes.{content-length}
@@ -26,16 +28,16 @@ use Rattle.batches.proofs.Sizes.{body-rest}
 
 -- ---- the only one
 
-content-written : (bs : List ℕ) (c : Content Record) → ContentBytes true bs c → bs ≡ writtenContent c
+content-written : (mode : ControlMode) (bs : List ℕ) (c : Content Record) → ContentBytes mode true bs c → bs ≡ writtenContent mode c
 unfolding writtenContent
-content-written bs (control m) g = marker-written bs m g
-content-written bs (records rs) g = run-written bs rs g
+content-written mode bs (control m) g = forms-lawful mode .strict bs m .0 g
+content-written mode bs (records rs) g = run-written bs rs g
 
 pub exact-count : {z : ℤ} {n : ℕ} → Counts true z n → z ≡ pos n
 exact-count exactly = refl
 
-module _ {bs : List ℕ} {b : Batch Record} (g : BatchBytes true bs b) where
-  checked-written : g .checked ≡ checkedBytes b
+module _ {mode : ControlMode} {bs : List ℕ} {b : Batch Record} (g : BatchBytes mode true bs b) where
+  checked-written : g .checked ≡ checkedBytes mode b
   unfolding checkedBytes
   checked-written =
       let count = g .numbered .is ∙ ap (λ (z : ℤ). bigEndian 4 (complement 32 z)) (exact-count (g .counts)) in
@@ -45,9 +47,9 @@ module _ {bs : List ℕ} {b : Batch Record} (g : BatchBytes true bs b) where
       g .attributes .is i ∷ g .lastOffsetDelta .is i ∷ g .firstTimestamp .is i ∷ g .maxTimestamp .is i ∷ g .producerId .is i
       ∷ g .producerEpoch .is i ∷ g .baseSequence .is i ∷ count i ∷ []
       )
-      ++ content-written (g .body) (b .content) (g .holds) i)
+      ++ content-written mode (g .body) (b .content) (g .holds) i)
 
-  counted-length : length (g .counted) ≡ batchLengthOf b
+  counted-length : length (g .counted) ≡ batchLengthOf mode b
   unfolding batchLengthOf concat
   counted-length =
       ap length (g .countedIs)
@@ -59,7 +61,7 @@ module _ {bs : List ℕ} {b : Batch Record} (g : BatchBytes true bs b) where
         ap length checked-written,
       ))
 
-  pub batch-written : bs ≡ writtenBatch b
+  pub batch-written : bs ≡ writtenBatch mode b
   unfolding writtenBatch
   batch-written =
       let batchLength = g .batchLength .is ∙ ap (bigEndian 4) counted-length in
@@ -69,33 +71,33 @@ module _ {bs : List ℕ} {b : Batch Record} (g : BatchBytes true bs b) where
       g .is ∙ (λ i. concat (g .baseOffset .is i ∷ batchLength i ∷ []) ++ counted i)
 
 pub written-only : WrittenOnly
-written-only bs bs′ b g h = batch-written g ∙ sym (batch-written h)
+written-only mode bs bs′ b g h = batch-written g ∙ sym (batch-written h)
 
 -- ---- the shortest
 
-content-shortest : (strict : Bool) (bs : List ℕ) (c : Content Record) → ContentBytes strict bs c → length (writtenContent c) ≤ length bs
+content-shortest : (mode : ControlMode) (strict : Bool) (bs : List ℕ) (c : Content Record) → ContentBytes mode strict bs c → length (writtenContent mode c) ≤ length bs
 unfolding writtenContent
-content-shortest strict bs (control m) g = let same = ap length (marker-written bs m g) in omega arith
-content-shortest strict bs (records rs) g = run-shortest strict bs rs g
+content-shortest mode strict bs (control m) g = forms-lawful mode .shortest strict bs m g
+content-shortest mode strict bs (records rs) g = run-shortest strict bs rs g
 
 -- so a batch that has an encoding is not too long to be written
-pub batch-short : {strict : Bool} {bs : List ℕ} {b : Batch Record} → BatchBytes strict bs b → batchLengthOf b ≤ mostLength
-batch-short {strict} {bs} {b} g =
+pub batch-short : {mode : ControlMode} {strict : Bool} {bs : List ℕ} {b : Batch Record} → BatchBytes mode strict bs b → batchLengthOf mode b ≤ mostLength
+batch-short {mode} {strict} {bs} {b} g =
     omega (
       arith,
-      content-length b,
-      content-shortest strict (g .body) (b .content) (g .holds),
+      content-length mode b,
+      content-shortest mode strict (g .body) (b .content) (g .holds),
       body-rest g,
       ends (whole bs) g,
       g .batchLength .fits,
     )
 
 pub written-shortest : WrittenShortest
-written-shortest strict bs bs′ b g h =
+written-shortest mode strict bs bs′ b g h =
     omega (
       arith,
       body-rest g,
       body-rest h,
-      ap length (content-written (g .body) (b .content) (g .holds)),
-      content-shortest strict (h .body) (b .content) (h .holds),
+      ap length (content-written mode (g .body) (b .content) (g .holds)),
+      content-shortest mode strict (h .body) (b .content) (h .holds),
     )

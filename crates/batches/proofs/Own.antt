@@ -23,6 +23,7 @@ use Rattle.writing.specs.Answers.{given}
 use Rattle.layout.specs.Batch.{Content, control, records, Batch}
 use Rattle.layout.specs.Format.{ContentBytes, BatchBytes}
 use Rattle.opening.specs.Judgement.{accepted, Accepted, judge}
+use Rattle.layout.specs.declared.ControlMode.{ControlMode}
 use Rattle.batches.specs.Placed.{placedContent, shownContent, shownBatch}
 use Rattle.batches.specs.Answers.{roomsOf, hasRoom, stored}
 use Rattle.batches.specs.Writer.{batchLengthOf, writtenBatch, wantedOf, contentAsked, mostLength, batchGiven, ownTables}
@@ -41,29 +42,29 @@ abbrev ContentInside : List ℕ → Content RecordSpans → Type 0
 ContentInside s (control m) = Unit {0}
 ContentInside s (records rs) = Each (RecordInside s) rs
 
-content-inside : (strict : Bool) {s : List ℕ} {p q : ℕ} {bs : List ℕ} (v : Content Record) → Stands s p q bs → (g : ContentBytes strict bs v)
-    → ContentInside s (placedContent strict bs v p g)
-content-inside strict (control m) x g = tt
-content-inside strict (records rs) x g = records-inside x g
+content-inside : (mode : ControlMode) (strict : Bool) {s : List ℕ} {p q : ℕ} {bs : List ℕ} (v : Content Record) → Stands s p q bs → (g : ContentBytes mode strict bs v)
+    → ContentInside s (placedContent mode strict bs v p g)
+content-inside mode strict (control m) x g = tt
+content-inside mode strict (records rs) x g = records-inside x g
 
-content-writable : (strict : Bool) (bs : List ℕ) (v : Content Record) → ContentBytes strict bs v → WritableContent v
-content-writable strict bs (control m) g = tt
-content-writable strict bs (records rs) g = run-writable strict bs rs g
+content-writable : (mode : ControlMode) (strict : Bool) (bs : List ℕ) (v : Content Record) → ContentBytes mode strict bs v → WritableContent v
+content-writable mode strict bs (control m) g = tt
+content-writable mode strict bs (records rs) g = run-writable strict bs rs g
 
 -- ---- an accepted batch
 
 -- what is written of the batch that it shows
-abbrev pub rewritten : List ℕ → Accepted → List ℕ
-rewritten s b = writtenBatch (shownBatch s b)
+abbrev pub rewritten : ControlMode → List ℕ → Accepted → List ℕ
+rewritten mode s b = writtenBatch mode (shownBatch s b)
 
-pub record Own (s : List ℕ) (b : Accepted) : Type 0 where
+pub record Own (mode : ControlMode) (s : List ℕ) (b : Accepted) : Type 0 where
   pub inside : ContentInside s (b .content)
-  pub short : batchLengthOf (shownBatch s b) ≤ mostLength
-  pub encodes : BatchBytes true (rewritten s b) (shownBatch s b)
-  pub within : length (rewritten s b) ≤ b .consumed
+  pub short : batchLengthOf mode (shownBatch s b) ≤ mostLength
+  pub encodes : BatchBytes mode true (rewritten mode s b) (shownBatch s b)
+  pub within : length (rewritten mode s b) ≤ b .consumed
   pub first : b .firstHeader ≡ 0
 
-pub in-width : {strict : Bool} {bs : List ℕ} {b : Batch Record} → BatchBytes strict bs b → InWidth (b .fields)
+pub in-width : {mode : ControlMode} {strict : Bool} {bs : List ℕ} {b : Batch Record} → BatchBytes mode strict bs b → InWidth (b .fields)
 in-width g =
     record {
       baseOffset = g .baseOffset .fits;
@@ -76,21 +77,21 @@ in-width g =
       baseSequence = g .baseSequence .fits;
     }
 
-pub own : (s : List ℕ) (b : Accepted) → Bytes s → judge s ≡ accepted b → Own s b
-own s b bytes j =
-    let (e, is) = sound s 0 0 b bytes j in
+pub own : (mode : ControlMode) (s : List ℕ) (b : Accepted) → Bytes s → judge mode s ≡ accepted b → Own mode s b
+own mode s b bytes j =
+    let (e, is) = sound mode s 0 0 b bytes j in
     let x = e .stands in
     let g = e .encodes in
     let content = shownContent s (b .content) in
     let again =
-    shown-encodes s (b .fields) (b .content) bytes (content-writable false (g .body) content (g .holds)) (in-width g) (batch-short g) in
+    shown-encodes mode s (b .fields) (b .content) bytes (content-writable mode false (g .body) content (g .holds)) (in-width g) (batch-short g) in
     record {
       inside =
           subst (ContentInside s) (ap (λ (a : Accepted). a .content) (sym is))
-          (content-inside false content (parts-stand x g .body) (g .holds));
+          (content-inside mode false content (parts-stand x g .body) (g .holds));
       short = batch-short g;
       encodes = again;
-      within = omega (arith, written-shortest false _ _ _ again g, x .end);
+      within = omega (arith, written-shortest mode false _ _ _ again g, x .end);
       first = ap (λ (a : Accepted). a .firstHeader) is;
     }
 
@@ -102,11 +103,11 @@ content-asked s (control m) t i room = (rowPlace 0 0, refl)
 content-asked s (records rs) t i room =
     (rowPlace (length rs) (0 + headersIn rs), ap (mapStep records) (own-rows 0 rs t s (sym (room-is 0 rs t) ∙ room) i))
 
-pub own-given : {s : List ℕ} {b : Accepted} (t : Tables) → Own s b → hasRoom (b .content) 0 (roomsOf t) ≡ true
-    → batchGiven (b .fields) 0 (wantedOf (b .content)) (stored (b .content) 0 t) s ≡ given (rewritten s b)
+pub own-given : {mode : ControlMode} {s : List ℕ} {b : Accepted} (t : Tables) → Own mode s b → hasRoom (b .content) 0 (roomsOf t) ≡ true
+    → batchGiven mode (b .fields) 0 (wantedOf (b .content)) (stored (b .content) 0 t) s ≡ given (rewritten mode s b)
 unfolding batchGiven
-own-given {s} {b} t o room =
-    rw (content-asked s (b .content) t (o .inside) room .1, le-leb (batchLengthOf (shownBatch s b)) mostLength (o .short))
+own-given {mode} {s} {b} t o room =
+    rw (content-asked s (b .content) t (o .inside) room .1, le-leb (batchLengthOf mode (shownBatch s b)) mostLength (o .short))
 
 -- ---- and from tables of just its rows
 
@@ -124,8 +125,8 @@ own-stored : (c : Content RecordSpans) → stored c 0 (blank c) ≡ ownTables c
 own-stored (control m) = refl
 own-stored (records rs) = refl
 
-pub own-tables-given : {s : List ℕ} {b : Accepted} → Own s b
-    → batchGiven (b .fields) 0 (wantedOf (b .content)) (ownTables (b .content)) s ≡ given (rewritten s b)
-own-tables-given {s} {b} o =
-    ap (λ (t : Tables). batchGiven (b .fields) 0 (wantedOf (b .content)) t s) (sym (own-stored (b .content)))
+pub own-tables-given : {mode : ControlMode} {s : List ℕ} {b : Accepted} → Own mode s b
+    → batchGiven mode (b .fields) 0 (wantedOf (b .content)) (ownTables (b .content)) s ≡ given (rewritten mode s b)
+own-tables-given {mode} {s} {b} o =
+    ap (λ (t : Tables). batchGiven mode (b .fields) 0 (wantedOf (b .content)) t s) (sym (own-stored (b .content)))
     ∙ own-given (blank (b .content)) o (blank-room (b .content))

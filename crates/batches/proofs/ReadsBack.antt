@@ -80,11 +80,11 @@ with-room a false t o w e f = (cc, cc)
 
 -- o′ is the outcome on the encoding and anything after it
 module _ (q : Request) (c : Content RecordSpans) (bs after : List ℕ) (t : Tables) (o′ : ReadOutcome) where
-  encoding-reads : BatchBytes true bs (batchAsked q c) → ReadPromise (bs ++ after) t o′ → Enough c t
+  encoding-reads : BatchBytes (q .mode) true bs (batchAsked q c) → ReadPromise (q .mode) (bs ++ after) t o′ → Enough c t
       → SameBatch q c (length bs) (bs ++ after) t o′
   encoding-reads g promise enough =
       let s = bs ++ after in
-      let (accepts, same) = complete true s 0 0 (length bs) bs (batchAsked q c) (in-front bs after) g in
+      let (accepts, same) = complete (q .mode) true s 0 0 (length bs) bs (batchAsked q c) (in-front bs after) g in
       let read = placedBatch 0 0 g in
       let content = ap (λ (b : Batch Record). b .content) same in
       let by = subst (λ (j : Judgement). ReadBy j t o′) accepts (promise .by) in
@@ -102,6 +102,6 @@ reads-back q c out o n after t o′ promise e asks read enough =
     let w = written q out o n promise e in
     let begins = written-begins w in
     let same = asked-once q (w .asked) asks in
-    let g = subst (λ (c : Content RecordSpans). BatchBytes true (w .bytes) (batchAsked q c)) same (w .encodes) in
+    let g = subst (λ (c : Content RecordSpans). BatchBytes (q .mode) true (w .bytes) (batchAsked q c)) same (w .encodes) in
     let reads = encoding-reads q c (w .bytes) after t o′ g (rw begins at read) enough in
     rw begins (subst (λ (n : ℕ). SameBatch q c n (w .bytes ++ after) t o′) (w .length-is) reads)

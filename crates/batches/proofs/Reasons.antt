@@ -12,14 +12,14 @@ use Rattle.primitives.specs.Step.{Step, ok, no}
 use Rattle.records.specs.Judgement.{RecordSpans}
 use Rattle.records.specs.Rows.{Tables}
 use Rattle.layout.specs.Batch.{Content, control, records}
-use Rattle.opening.specs.Judgement.{Judgement, Judged, more, refused, accepted, Accepted, Control, judgementOf, wholeAt, judgeWhole, judgeWith, totalAt, bareMarkerAt, judge}
+use Rattle.opening.specs.Judgement.{wayOf, Judgement, Judged, more, refused, accepted, Accepted, Control, judgementOf, wholeAt, judgeWhole, judgeWith, totalAt, bareMarkerAt, judge}
 use Rattle.opening.proofs.Tests.{Totals, few, low, short, unknown, lacking, there, totals, total-is}
 use Rattle.batches.specs.declared.BatchRead.{BatchRead}
 use Rattle.batches.specs.Answers.{Standing, Answer, viewRead, wants, lacksRoom, recordsIn, headersOf, roomsOf, hasRoom, answerOf}
 use Rattle.batches.specs.Promises.{ReadOutcome, ReadBy}
 use Rattle.batches.specs.Statements.{movedJudgement}
 use Rattle.batches.specs.Demand3.{Lacks, length-lacks, magic-lacks, batch-lacks, MoreBytes, MoreBytesWith, NoRoom, NoRoomWith}
-use Rattle.batches.proofs.Numbers.{refusals, bare-marker-within}
+use Rattle.batches.proofs.Numbers.{refusals, ways-within}
 use Rattle.batches.proofs.Shifted.{first-header-shifted}
 use Rattle.batches.proofs.Single.{view-read-injective}
 use Rattle.batches.proofs.Rooms.{room-short, short-room, Goes, wanting, refusing, roomy, cramped, goes, numbered}
@@ -124,7 +124,7 @@ more-bytes-with way within at first s t o n e = (
 )
 
 pub more-bytes : MoreBytes
-more-bytes s t o n e = more-bytes-with bareMarkerAt bare-marker-within 0 0 s t o n (e .by)
+more-bytes mode s t o n e = more-bytes-with (wayOf mode) (ways-within mode) 0 0 s t o n (e .by)
 
 pub no-room-with : NoRoomWith
 no-room-with way within at first s t o n m e = (
@@ -133,9 +133,9 @@ no-room-with way within at first s t o n m e = (
 )
 
 pub no-room : NoRoom
-no-room s t o n m e =
-    let first : (b : Accepted) → judge s ≡ accepted b → b .firstHeader ≡ 0 = first-is bareMarkerAt s 0 0 in
-    let by = no-room-with bareMarkerAt bare-marker-within 0 0 s t o n m (e .by) in (
+no-room mode s t o n m e =
+    let first : (b : Accepted) → judge mode s ≡ accepted b → b .firstHeader ≡ 0 = first-is (wayOf mode) s 0 0 in
+    let by = no-room-with (wayOf mode) (ways-within mode) 0 0 s t o n m (e .by) in (
       λ w. let (b, q, x, y, h) = by .0 w in (b, q, x, y, rows-short b t n m (first b q) x y .0 h),
       λ (b, q, x, y, h). by .1 (b, q, x, y, rows-short b t n m (first b q) x y .1 h),
     )

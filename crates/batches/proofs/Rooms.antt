@@ -13,7 +13,7 @@ use Rattle.numbers.proofs.Picks.{both-hold, one-fails, second-fails}
 use Rattle.records.specs.Judgement.{RecordSpans}
 use Rattle.records.specs.Rows.{headersIn, Tables}
 use Rattle.layout.specs.Batch.{Content, control, records}
-use Rattle.opening.specs.Judgement.{Judgement, more, refused, accepted, Accepted, judgeWith, bareMarkerAt, judge}
+use Rattle.opening.specs.Judgement.{wayOf, Judgement, more, refused, accepted, Accepted, judgeWith, bareMarkerAt, judge}
 use Rattle.batches.specs.Answers.{Answer, viewCheck, viewRead, answerWithRoom, wants, refuses, acceptedAs, lacksRoom, recordsIn, headersOf, Rooms, roomsOf, hasRoom, answerOf, stored}
 use Rattle.batches.specs.Promises.{ReadOutcome, ReadBy}
 use Rattle.batches.specs.Statements.{Untouched, CheckAgrees}
@@ -110,12 +110,12 @@ pub room-free-with : RoomFreeWith
 room-free-with way at first s t t′ o o′ = same-in-any t t′ o o′ (judgeWith way s at first)
 
 pub room-free : RoomFree
-room-free s t t′ o o′ e e′ = room-free-with bareMarkerAt 0 0 s t t′ o o′ (e .by) (e′ .by)
+room-free mode s t t′ o o′ e e′ = room-free-with (wayOf mode) 0 0 s t t′ o o′ (e .by) (e′ .by)
 
 -- ---- one outcome
 
 pub untouched : Untouched
-untouched s t o e none = by (judge s) (goes (judge s) t o (e .by))
+untouched mode s t o e none = by (judge mode s) (goes (judge mode s) t o (e .by))
   where
     by : (j : Judgement) → Goes t o j → o .tables ≡ t
     by _ (wanting a w) = w
@@ -124,7 +124,7 @@ untouched s t o e none = by (judge s) (goes (judge s) t o (e .by))
     by _ (cramped h a w) = w
 
 pub check-agrees : CheckAgrees
-check-agrees s r t o c e fourteen = by (judge s) (goes (judge s) t o (e .by)) (c .answer)
+check-agrees mode s r t o c e fourteen = by (judge mode s) (goes (judge mode s) t o (e .by)) (c .answer)
   where
     by : (j : Judgement) → Goes t o j → viewCheck r ≡ answerWithRoom j → viewCheck r ≡ viewRead (o .result)
     by _ (wanting a w) c = c ∙ sym a

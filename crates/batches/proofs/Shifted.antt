@@ -14,8 +14,9 @@ use Rattle.primitives.proofs.Steps.{and-then-and-then}
 use Rattle.primitives.proofs.Shifted.{ltb-add, moved, big-shifted, integer-shifted}
 use Rattle.primitives.proofs.Picks.{and-then-pick}
 use Rattle.records.proofs.Shifted.{records-shifted}
-use Rattle.opening.specs.Judgement.{Judged, more, refused, accepted, Accepted, Attributes, totalAt, countOf, openedAt, Control, contentAt, wholeAt, judgementOf, judgeWhole, judgeWith, bareMarkerAt}
-use Rattle.batches.specs.Statements.{movedContent, movedAccepted, movedJudgement, Placeless, PlaceShifted, BareMarkerPlaceless, FirstHeaderShifted}
+use Rattle.opening.specs.Judgement.{Judged, more, refused, accepted, Accepted, Attributes, totalAt, countOf, openedAt, Control, contentAt, wholeAt, judgementOf, judgeWhole, judgeWith}
+use Rattle.opening.specs.Statements.{Placeless}
+use Rattle.batches.specs.Statements.{movedContent, movedAccepted, movedJudgement, PlaceShifted, FirstHeaderShifted}
 
 -- ---- the place
 
@@ -62,10 +63,6 @@ pub place-shifted : PlaceShifted
 unfolding judgeWith
 place-shifted way placeless front s at first =
     rw (total-shifted front s at) (judge-whole-shifted way placeless front s at first (totalAt s at))
-
-pub bare-marker-placeless : BareMarkerPlaceless
-unfolding bareMarkerAt
-bare-marker-placeless front s p = simp (integer-shifted, and-then-and-then, and-then-pick, length-append, ltb-add, moved)
 
 -- ---- the first header row
 

@@ -18,6 +18,7 @@ use Rattle.layout.proofs.Single.{timestampType, type-again, time, time-again}
 use Rattle.opening.specs.Judgement.{Judgement, judge}
 use Rattle.opening.proofs.Single.{refusal, refusal-again}
 use Rattle.markers.proofs.Single.{marker, marker-again}
+use Rattle.layout.specs.declared.ControlMode.{ControlMode}
 use Rattle.batches.specs.declared.body.BodyReader.{BodyReader}
 use Rattle.batches.specs.declared.RecordBatch.{RecordBatch}
 use Rattle.batches.specs.declared.ControlBatchOrRecords.{ControlBatchOrRecords}
@@ -100,8 +101,8 @@ view-read-injective r r′ e = single-view viewRead read read-again (viewRead r�
 
 -- ---- the promises
 
-pub single-check : (s : List ℕ) → Single (CheckPromise s)
-single-check s r r′ e e′ = view-check-injective r r′ (e .answer ∙ sym (e′ .answer))
+pub single-check : (mode : ControlMode) (s : List ℕ) → Single (CheckPromise mode s)
+single-check mode s r r′ e e′ = view-check-injective r r′ (e .answer ∙ sym (e′ .answer))
 
 pub single-read-by : (j : Judgement) (t : Tables) → Single (ReadBy j t)
 single-read-by j t o o′ e e′ =
@@ -109,8 +110,8 @@ single-read-by j t o o′ e e′ =
     let q = single-value _ (o .tables) (o′ .tables) (e .tables) (e′ .tables) in
     λ i. record { result = p i; tables = q i }
 
-pub single-read : (s : List ℕ) (t : Tables) → Single (ReadPromise s t)
-single-read s t o o′ e e′ = single-read-by (judge s) t o o′ (e .by) (e′ .by)
+pub single-read : (mode : ControlMode) (s : List ℕ) (t : Tables) → Single (ReadPromise mode s t)
+single-read mode s t o o′ e e′ = single-read-by (judge mode s) t o o′ (e .by) (e′ .by)
 
 pub single-body-reader : (body : RefT (List ℕ)) (at : ℕ) → Single (BodyReaderPromise body at)
 single-body-reader body at = single-value _
@@ -129,11 +130,12 @@ single-record-time b delta = single-view viewTime time time-again _
 
 -- ---- the writer's promises, and the canonical check's
 
-pub single-measure : (b : RecordBatch) (codec : ℕ) (k : ControlBatchOrRecords) (t : Tables) (s : List ℕ) → Single (MeasurePromise b codec k t s)
-single-measure b codec k t s = single-written _
+pub single-measure : (mode : ControlMode) (b : RecordBatch) (codec : ℕ) (k : ControlBatchOrRecords) (t : Tables) (s : List ℕ) → Single (MeasurePromise mode b codec k t s)
+single-measure mode b codec k t s = single-written _
 
-pub single-write : (b : RecordBatch) (codec : ℕ) (k : ControlBatchOrRecords) (t : Tables) (s out : List ℕ) → Single (WritePromise b codec k t s out)
-single-write b codec k t s out o o′ e e′ = single-write-by _ 0 out o o′ (e .by) (e′ .by)
+pub single-write : (mode : ControlMode) (b : RecordBatch) (codec : ℕ) (k : ControlBatchOrRecords) (t : Tables) (s out : List ℕ)
+    → Single (WritePromise mode b codec k t s out)
+single-write mode b codec k t s out o o′ e e′ = single-write-by _ 0 out o o′ (e .by) (e′ .by)
 
-pub single-is-canonical : (s : List ℕ) → Single (CanonicalPromise s)
-single-is-canonical s r r′ e e′ = single-exactly (Canonical s) r r′ (e .says) (e′ .says)
+pub single-is-canonical : (mode : ControlMode) (s : List ℕ) → Single (CanonicalPromise mode s)
+single-is-canonical mode s r r′ e e′ = single-exactly (Canonical mode s) r r′ (e .says) (e′ .says)

@@ -11,15 +11,16 @@ use Rattle.numbers.proofs.Integers.{unsigned-length, integer-length}
 use Rattle.records.specs.Format.{Record}
 use Rattle.records.proofs.Sizes.{total-sizes}
 use Rattle.layout.specs.Table.{fixedPart, uncountedFields, uncheckedFields}
-use Rattle.layout.specs.Batch.{Content, control, records, Batch}
-use Rattle.layout.specs.Format.{ContentBytes, BatchBytes}
-use Rattle.opening.specs.Judgement.{Accepted, bareMarkerAt}
+use Rattle.layout.specs.Batch.{Marker, Content, control, records, Batch}
+use Rattle.layout.specs.Format.{grammarOf, ContentBytes, BatchBytes}
+use Rattle.opening.specs.Judgement.{Accepted, wayOf}
+use Rattle.layout.specs.declared.ControlMode.{ControlMode}
 use Rattle.batches.specs.Placed.{shownContent}
-use Rattle.batches.specs.Statements.{SizesOf, Sizes}
+use Rattle.batches.specs.Statements.{MarkedSize, SizesOf, Sizes}
 use Rattle.batches.proofs.Passed.{passed}
 use Rattle.batches.proofs.Sound.{sound}
 
-pub body-rest : {strict : Bool} {bs : List ℕ} {b : Batch Record} (g : BatchBytes strict bs b) → length bs ≡ fixedPart + length (g .body)
+pub body-rest : {mode : ControlMode} {strict : Bool} {bs : List ℕ} {b : Batch Record} (g : BatchBytes mode strict bs b) → length bs ≡ fixedPart + length (g .body)
 unfolding concat
 body-rest g =
     ap length (
@@ -44,21 +45,27 @@ body-rest g =
       integer-length (g .numbered),
     ))
 
-body-sizes : (strict : Bool) (bs : List ℕ) (c : Content Record) (g : ContentBytes strict bs c) (n : ℕ) → n ≡ 49 + length bs
-    → SizesOf strict bs c g n
-body-sizes strict bs (control m) g n e =
+marked-size : (mode : ControlMode) (strict : Bool) (bs : List ℕ) (m : Marker) → grammarOf mode strict bs m → (n : ℕ) → n ≡ 49 + length bs
+    → MarkedSize mode bs n
+unfolding grammarOf
+marked-size ControlMode.Bare strict bs m g n e =
     omega (arith, e, ap length (g .is), length-append (g .version) (g .kind), integer-length (g .versioned), integer-length (g .typed))
-body-sizes strict bs (records rs) g n e = e ∙ ap (λ (k : ℕ). 49 + k) (total-sizes g)
+marked-size ControlMode.Keyed strict bs m g n e = e
+
+body-sizes : (mode : ControlMode) (strict : Bool) (bs : List ℕ) (c : Content Record) (g : ContentBytes mode strict bs c) (n : ℕ) → n ≡ 49 + length bs
+    → SizesOf mode strict bs c g n
+body-sizes mode strict bs (control m) g n e = marked-size mode strict bs m g n e
+body-sizes mode strict bs (records rs) g n e = e ∙ ap (λ (k : ℕ). 49 + k) (total-sizes g)
 
 pub sizes : Sizes
-sizes s at first b bytes j =
-    let p = passed bareMarkerAt s at first b j in
-    let (e, w) = sound s at first b bytes j in
+sizes mode s at first b bytes j =
+    let p = passed (wayOf mode) s at first b j in
+    let (e, w) = sound mode s at first b bytes j in
     let consumed : b .consumed ≡ 12 + p .size = ap (λ (x : Accepted). x .consumed) (p .is) in
     let g = e .encodes in (
       e,
       p .size,
       p .batchLength,
       consumed,
-      body-sizes false (g .body) (shownContent s (b .content)) (g .holds) (p .size) (omega (arith, consumed, e .stands .end, body-rest g)),
+      body-sizes mode false (g .body) (shownContent s (b .content)) (g .holds) (p .size) (omega (arith, consumed, e .stands .end, body-rest g)),
     )

@@ -31,64 +31,33 @@ use Rattle.records.proofs.Sound.{records-sound}
 use Rattle.layout.specs.Table.{Slot, table, uncountedFields, uncheckedFields, checkedFields}
 use Rattle.layout.specs.Batch.{Marker, Content, control, records, Batch}
 use Rattle.layout.specs.Format.{bit, controlBit, howMany, Counts, markerType, MarkerBytes, ContentBytes, BatchBytes}
-use Rattle.opening.specs.Judgement.{Accepted, unsignedIn, numberIn, attributesIn, fieldsIn, is, contentAt, markerOf, endedAt, bareMarkerAt}
+use Rattle.opening.specs.Judgement.{wayOf, Accepted, unsignedIn, numberIn, attributesIn, fieldsIn, is, contentAt, markerOf, endedAt, bareMarkerAt}
 use Rattle.opening.proofs.Tests.{Says, is-true}
-use Rattle.opening.proofs.MarkerFaults.{type-read, sixteen}
+use Rattle.layout.specs.declared.ControlMode.{ControlMode}
+use Rattle.markers.proofs.Forms.{forms-lawful}
 use Rattle.batches.specs.Placed.{placedContent, placedBatch, shownContent, shownBatch}
 use Rattle.batches.specs.Statements.{Sound}
 use Rattle.batches.proofs.Bits.{together}
 use Rattle.batches.proofs.Passed.{Read, whole, passed}
 use Rattle.batches.proofs.Pieces.{piece, pieces, piece-unsigned, piece-integer, uncounted-stand, unchecked-stand, checked-stand}
 
--- ---- a control batch's marker
-
-ended-read : (s : List ℕ) {m k : Marker} {p q : ℕ} → endedAt s k p ≡ ok m q → (length s ≤ q) × (k ≡ m) × (p ≡ q)
-ended-read s {m} {k} {p} {q} e =
-    let (t, i) = passed-over (ltb p (length s)) (ok k p) 13 e in
-    let w : p ≡ q = cc in
-    (rw (← w) (ltb-false p (length s) t), cc, w)
-
-module _ (s : List ℕ) (b : Bytes s) where
-  marker-joined : {p k q : ℕ} {m : Marker} → Encoding (Integer 2) s p k (pos 0) → Encoding (Integer 2) s k q (pos (markerType m))
-      → Encoding MarkerBytes s p q m
-  marker-joined x y =
-      record {
-        bytes = x .bytes ++ y .bytes;
-        stands = joined (x .stands) (y .stands);
-        encodes = record { version = x .bytes; kind = y .bytes; is = refl; versioned = x .encodes; typed = y .encodes };
-      }
-
-  marker-sound : (p : ℕ) (m : Marker) (q : ℕ) → bareMarkerAt s p ≡ ok m q → Encoding MarkerBytes s p q m × (q ≡ length s)
-  unfolding bareMarkerAt
-  marker-sound p m q e =
-      let (v, k, i, j) = and-then-ok (integerAt 2 s p) _ e in
-      let (t, l) = picked (is 0 v) _ 12 j in
-      let (_, _, f, g) = and-then-ok (andThen (integerAt 2 s k) markerOf) (endedAt s) l in
-      let (z, _, c, d) = and-then-ok (integerAt 2 s k) markerOf f in
-      let (u, w) = type-read z (is 0 z) (is 1 z) refl refl d in
-      let (h, a, o) = ended-read s g in
-      let version = subst (Encoding (Integer 2) s p k) (is-true 0 v t) (sixteen s b i) in
-      let kind = subst₂ (λ (r : ℕ) (n : ℤ). Encoding (Integer 2) s k r n) (w ∙ o) (u ∙ ap (λ (y : Marker). pos (markerType y)) a) (sixteen s b c) in
-      let y = marker-joined version kind in
-      (y, omega (arith, h, y .stands .within))
-
 -- ---- the marker, or the records
 
 -- an encoding of v stands from p up to the list's end, c is where its parts stand, and its kind and number are as told
-record Found (s : List ℕ) (isControl : Bool) (n p : ℕ) (c : Content RecordSpans) (v : Content Record) : Type 0 where
+record Found (mode : ControlMode) (s : List ℕ) (isControl : Bool) (n p : ℕ) (c : Content RecordSpans) (v : Content Record) : Type 0 where
   bytes : List ℕ
   stands : Stands s p (length s) bytes
-  encodes : ContentBytes false bytes v
-  placed : c ≡ placedContent false bytes v p encodes
+  encodes : ContentBytes mode false bytes v
+  placed : c ≡ placedContent mode false bytes v p encodes
   kind : bit isControl ≡ controlBit v
   many : n ≡ howMany v
 
-content-found : (s : List ℕ) → Bytes s → (isControl : Bool) (n p : ℕ) (c : Content RecordSpans) (q : ℕ) → contentAt bareMarkerAt isControl s n p ≡ ok c q
-    → ((isControl ≡ true) × (n ≡ 1)) ⊎ (isControl ≡ false) → Found s isControl n p c (shownContent s c)
-content-found s b true n p c q e o =
-    let (m, i, w) = map-ok control (bareMarkerAt s p) e in
-    let (x, l) = marker-sound s b p m q i in
-    subst (λ (c : Content RecordSpans). Found s true n p c (shownContent s c)) w
+content-found : (mode : ControlMode) (s : List ℕ) → Bytes s → (isControl : Bool) (n p : ℕ) (c : Content RecordSpans) (q : ℕ) → contentAt (wayOf mode) isControl s n p ≡ ok c q
+    → ((isControl ≡ true) × (n ≡ 1)) ⊎ (isControl ≡ false) → Found mode s isControl n p c (shownContent s c)
+content-found mode s b true n p c q e o =
+    let (m, i, w) = map-ok control (wayOf mode s p) e in
+    let (x, l) = forms-lawful mode .sound s p q m b i in
+    subst (λ (c : Content RecordSpans). Found mode s true n p c (shownContent s c)) w
     (record {
       bytes = x .bytes;
       stands = subst (λ (q : ℕ). Stands s p q (x .bytes)) l (x .stands);
@@ -97,10 +66,10 @@ content-found s b true n p c q e o =
       kind = refl;
       many = elim o [ inl (_, h) ↦ h | inr f ↦ cc ];
     })
-content-found s b false n p c q e o =
+content-found mode s b false n p c q e o =
     let (rs, i, w) = map-ok records (recordsAt s n p) e in
     let (x, v, m, l) = records-sound s n p rs q b i in
-    subst (λ (c : Content RecordSpans). Found s false n p c (shownContent s c)) w
+    subst (λ (c : Content RecordSpans). Found mode s false n p c (shownContent s c)) w
     (record {
       bytes = x .bytes;
       stands = subst (λ (q : ℕ). Stands s p q (x .bytes)) l (x .stands);
@@ -111,17 +80,17 @@ content-found s b false n p c q e o =
     })
 
 -- what parts show where they stand
-content-shows : (strict : Bool) {s : List ℕ} {p q : ℕ} {bs : List ℕ} (v : Content Record) → Stands s p q bs → (g : ContentBytes strict bs v)
-    → shownContent s (placedContent strict bs v p g) ≡ v
-content-shows strict (control m) x g = refl
-content-shows strict (records rs) x g = ap records (records-shows x g)
+content-shows : (mode : ControlMode) (strict : Bool) {s : List ℕ} {p q : ℕ} {bs : List ℕ} (v : Content Record) → Stands s p q bs → (g : ContentBytes mode strict bs v)
+    → shownContent s (placedContent mode strict bs v p g) ≡ v
+content-shows mode strict (control m) x g = refl
+content-shows mode strict (records rs) x g = ap records (records-shows x g)
 
 -- a window shows what the list shows
-found-outside : (s : List ℕ) (e : ℕ) {isControl : Bool} {n p : ℕ} {c : Content RecordSpans} {v : Content Record}
-    → Found (take e s) isControl n p c v → Found (take e s) isControl n p c (shownContent s c)
-found-outside s e {isControl} {n} {p} {c} {v} f =
-    subst (Found (take e s) isControl n p c)
-    (sym (content-shows false v (outside e (f .stands)) (f .encodes)) ∙ ap (shownContent s) (sym (f .placed))) f
+found-outside : (mode : ControlMode) (s : List ℕ) (e : ℕ) {isControl : Bool} {n p : ℕ} {c : Content RecordSpans} {v : Content Record}
+    → Found mode (take e s) isControl n p c v → Found mode (take e s) isControl n p c (shownContent s c)
+found-outside mode s e {isControl} {n} {p} {c} {v} f =
+    subst (Found mode (take e s) isControl n p c)
+    (sym (content-shows mode false v (outside e (f .stands)) (f .encodes)) ∙ ap (shownContent s) (sym (f .placed))) f
 
 -- ---- the batch, in its window w
 
@@ -129,9 +98,9 @@ counts-said : (w : List ℕ) (at : ℕ) {n : ℕ} → Says w at n → Counts fal
 counts-said w at (inl e) = rw e Counts.exactly
 counts-said w at (inr (e, f)) = rw (e, f) Counts.minusOne
 
-module _ (w : List ℕ) (at n first : ℕ) (b : Bytes w) (l : length w ≡ at + (12 + n)) (length-is : numberIn (table .batchLength) w at ≡ pos n)
-    (magic-is : numberIn (table .magic) w at ≡ pos 2) {c : Content RecordSpans} {v : Content Record} (r : Read bareMarkerAt w at c)
-    (f : Found w (attributesIn w at .control) (r .count) (at + 61) c v) where
+module _ (mode : ControlMode) (w : List ℕ) (at n first : ℕ) (b : Bytes w) (l : length w ≡ at + (12 + n)) (length-is : numberIn (table .batchLength) w at ≡ pos n)
+    (magic-is : numberIn (table .magic) w at ≡ pos 2) {c : Content RecordSpans} {v : Content Record} (r : Read (wayOf mode) w at c)
+    (f : Found mode w (attributesIn w at .control) (r .count) (at + 61) c v) where
   abbrev checked : List ℕ
   checked = concat (checkedFields (pieces w at)) ++ f .bytes
 
@@ -150,7 +119,7 @@ module _ (w : List ℕ) (at n first : ℕ) (b : Bytes w) (l : length w ≡ at + 
   abbrev value : Batch Record
   value = record { fields = fieldsIn w at; content = v }
 
-  batch-bytes : BatchBytes false (concat (uncountedFields (pieces w at)) ++ counted) value
+  batch-bytes : BatchBytes mode false (concat (uncountedFields (pieces w at)) ++ counted) value
   batch-bytes =
       record {
         part = pieces w at;
@@ -185,7 +154,7 @@ module _ (w : List ℕ) (at n first : ℕ) (b : Bytes w) (l : length w ≡ at + 
         holds = f .encodes;
       }
 
-  batch-found : (e : Encoding (BatchBytes false) w at (length w) value) × (whole bareMarkerAt w at first (12 + n) c ≡ placedBatch at first (e .encodes))
+  batch-found : (e : Encoding (BatchBytes mode false) w at (length w) value) × (whole (wayOf mode) w at first (12 + n) c ≡ placedBatch at first (e .encodes))
   unfolding batch-bytes
   batch-found =
       let x = joined (uncounted-stand w at b (r .fixed)) counted-stands in
@@ -200,16 +169,16 @@ number-cut : (x : Slot) (e : ℕ) (s : List ℕ) (at : ℕ) → at + x .place + 
 number-cut x e s at h = ap (signedBy (2 ^ (8 * x .bytes - 1))) (big-window (x .bytes) e s (at + x .place) h)
 
 pub sound : Sound
-sound s at first b bytes j =
-    let p = passed bareMarkerAt s at first b j in
+sound mode s at first b bytes j =
+    let p = passed (wayOf mode) s at first b j in
     let r = p .read in
     let e = at + (12 + p .size) in
     let w = take e s in
     let l : length w ≡ e = length-take-le e s (p .all-there) in
     let cut : (x : Slot) → x .place + x .bytes ≤ 61 → numberIn x w at ≡ numberIn x s at = λ x h. number-cut x e s at (omega (arith, l, r .fixed)) in
-    let f = content-found w (window-bytes e s bytes) (attributesIn w at .control) (r .count) (at + 61) (p .content) (r .end) (r .reads) (r .one) in
-    let (x, y) = batch-found w at (p .size) first (window-bytes e s bytes) l
-    (cut (table .batchLength) (omega arith) ∙ p .batchLength) (cut (table .magic) (omega arith) ∙ p .magic) r (found-outside s e f) in
-    subst (λ (b : Accepted). (e : Encoding (BatchBytes false) s at (at + b .consumed) (shownBatch s b)) × (b ≡ placedBatch at first (e .encodes)))
+    let f = content-found mode w (window-bytes e s bytes) (attributesIn w at .control) (r .count) (at + 61) (p .content) (r .end) (r .reads) (r .one) in
+    let (x, y) = batch-found mode w at (p .size) first (window-bytes e s bytes) l
+    (cut (table .batchLength) (omega arith) ∙ p .batchLength) (cut (table .magic) (omega arith) ∙ p .magic) r (found-outside mode s e f) in
+    subst (λ (b : Accepted). (e : Encoding (BatchBytes mode false) s at (at + b .consumed) (shownBatch s b)) × (b ≡ placedBatch at first (e .encodes)))
     (sym (p .is))
     (record { bytes = x .bytes; stands = outside e (subst (λ (q : ℕ). Stands w at q (x .bytes)) l (x .stands)); encodes = x .encodes }, y)

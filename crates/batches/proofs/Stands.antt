@@ -10,7 +10,7 @@ use Rattle.primitives.specs.Reading.{signedBy}
 use Rattle.primitives.proofs.Windows.{big-longer}
 use Rattle.records.specs.Rows.{Tables}
 use Rattle.layout.specs.Table.{Slot, table}
-use Rattle.opening.specs.Judgement.{Judged, Judgement, more, numberIn, is, below, Control, judgementOf, wholeAt, judgeWhole, judgeWith, bareMarkerAt, judge}
+use Rattle.opening.specs.Judgement.{wayOf, Judged, Judgement, more, numberIn, is, below, Control, judgementOf, wholeAt, judgeWhole, judgeWith, bareMarkerAt, judge}
 use Rattle.opening.proofs.Tests.{Totals, few, low, short, unknown, lacking, there, totals, total-is}
 use Rattle.batches.specs.Answers.{viewRead, answerWithRoom, roomsOf, answerOf}
 use Rattle.batches.specs.Promises.{ReadOutcome, ReadBy}
@@ -53,7 +53,7 @@ judge-stands-with way at first s after never =
     ap (judgeWhole way (s ++ after) at first) (total-is (s ++ after) at _ t) ∙ e
 
 pub judge-stands : JudgeStands
-judge-stands = judge-stands-with bareMarkerAt 0 0
+judge-stands mode = judge-stands-with (wayOf mode) 0 0
 
 -- ---- the answers
 
@@ -74,16 +74,16 @@ stands-with way at first s after t t′ o o′ e e′ l one =
     same-in-larger t t′ o o′ _ e (by-the-same way at first s after t t′ o o′ e e′ one) l one
 
 pub stands : Stands
-stands s after t t′ o o′ e e′ = stands-with bareMarkerAt 0 0 s after t t′ o o′ (e .by) (e′ .by)
+stands mode s after t t′ o o′ e e′ = stands-with (wayOf mode) 0 0 s after t t′ o o′ (e .by) (e′ .by)
 
 pub no-room-stands-with : NoRoomStandsWith
 no-room-stands-with way at first s after t t′ o o′ e e′ r fourteen =
     same-in-as-many t t′ o o′ _ e (by-the-same way at first s after t t′ o o′ e e′ (λ one. absurd (omega (arith, one, fourteen)))) r
 
 pub no-room-stands : NoRoomStands
-no-room-stands s after t t′ o o′ e e′ = no-room-stands-with bareMarkerAt 0 0 s after t t′ o o′ (e .by) (e′ .by)
+no-room-stands mode s after t t′ o o′ e e′ = no-room-stands-with (wayOf mode) 0 0 s after t t′ o o′ (e .by) (e′ .by)
 
 pub check-stands : CheckStands
-check-stands s after r r′ e e′ one =
-    let never : (n : ℕ) → judge s ≡ more n → ⊥ = λ n w. one (numbered (e .answer ∙ ap answerWithRoom w)) in
-    view-check-injective r′ r (e′ .answer ∙ ap answerWithRoom (judge-stands s after never) ∙ sym (e .answer))
+check-stands mode s after r r′ e e′ one =
+    let never : (n : ℕ) → judge mode s ≡ more n → ⊥ = λ n w. one (numbered (e .answer ∙ ap answerWithRoom w)) in
+    view-check-injective r′ r (e′ .answer ∙ ap answerWithRoom (judge-stands mode s after never) ∙ sym (e .answer))

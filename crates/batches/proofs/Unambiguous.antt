@@ -27,10 +27,10 @@ same-judgement s {u = u} {v} (e, f) (e′, f′) =
     (ap (λ (x : Accepted). x .consumed) w, sym f ∙ ap (shownBatch s) w ∙ f′)
 
 pub unambiguous : Unambiguous
-unambiguous strict strict′ bs rest a b g h =
+unambiguous mode strict strict′ bs rest a b g h =
     let s = bs ++ rest in
     let (ends, values) =
-    same-judgement s (complete strict s 0 0 (length bs) bs a (in-front bs rest) g) (complete strict′ s 0 0 (length s) s b (whole s) h) in
+    same-judgement s (complete mode strict s 0 0 (length bs) bs a (in-front bs rest) g) (complete mode strict′ s 0 0 (length s) s b (whole s) h) in
     (no-rest bs rest ends, values)
 
 -- ---- no batch after a refusal
@@ -48,8 +48,8 @@ standing-refused (accepted b) r x =
     absurd (room-not-standing (hasRoom (b .content) (b .firstHeader) r) (acceptedAs b) (lacksRoom _ _) refl refl x)
 
 pub never : Never
-never strict s after bs rest b t o promise standing e g =
-    let (n, refusal) = standing-refused (judge s) (roomsOf t) (rw (ap (λ (x : Answer). x .number) (promise .by .answer)) at standing) in
-    let later = judge-stands s after (λ m is. more-not-refused (sym is ∙ refusal)) in
-    let one = complete strict (bs ++ rest) 0 0 (length bs) bs b (in-front bs rest) g .0 in
-    refused-not-accepted (sym refusal ∙ sym later ∙ ap judge e ∙ one)
+never mode strict s after bs rest b t o promise standing e g =
+    let (n, refusal) = standing-refused (judge mode s) (roomsOf t) (rw (ap (λ (x : Answer). x .number) (promise .by .answer)) at standing) in
+    let later = judge-stands mode s after (λ m is. more-not-refused (sym is ∙ refusal)) in
+    let one = complete mode strict (bs ++ rest) 0 0 (length bs) bs b (in-front bs rest) g .0 in
+    refused-not-accepted (sym refusal ∙ sym later ∙ ap (judge mode) e ∙ one)

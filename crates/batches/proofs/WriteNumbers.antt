@@ -27,6 +27,7 @@ use Rattle.writing.specs.Answers.{Answer, writes, refuses, viewWritten, given, 
 use Rattle.writing.proofs.Outcomes.{numbers}
 use Rattle.layout.specs.Table.{uncounted}
 use Rattle.layout.specs.Batch.{Content, records, Batch}
+use Rattle.layout.specs.declared.ControlMode.{ControlMode}
 use Rattle.batches.specs.Answers.{viewFields}
 use Rattle.batches.specs.Writer.{batchLengthOf, writtenBatch, Wanted, marker, rows, viewWanted, contentAsked, mostLength, batchGiven}
 use Rattle.batches.specs.Request.{Request}
@@ -47,8 +48,8 @@ module _ (t : Tables) (s : List ℕ) where
 
 -- ---- what is answered of a batch of some length
 
-lengths-are : (b : Batch Record) → length (writtenBatch b) ≡ uncounted + batchLengthOf b
-lengths-are b = omega (arith, written-length b, content-length b)
+lengths-are : (mode : ControlMode) (b : Batch Record) → length (writtenBatch mode b) ≡ uncounted + batchLengthOf mode b
+lengths-are mode b = omega (arith, written-length mode b, content-length mode b)
 
 -- by whether the length is within its field, and within the output
 abbrev byLengths : Bool → Bool → ℕ → Answer
@@ -79,12 +80,12 @@ module _ (q : Request) (out : List ℕ) where
   asked = contentAsked (viewWanted (q .kind)) (q .tables) (q .source)
 
   abbrev due : Answer
-  due = answerDue 0 out (batchGiven (viewFields (q .batch)) (q .codec) (viewWanted (q .kind)) (q .tables) (q .source))
+  due = answerDue 0 out (batchGiven (q .mode) (viewFields (q .batch)) (q .codec) (viewWanted (q .kind)) (q .tables) (q .source))
 
   -- one of these is so
   told-by : q .codec ≡ 0 → (x : Step RowPlace (Content RecordSpans)) → asked ≡ x → RefusedBy RowFault x → (k : ℕ) × Told q out k
   told-by e (ok c p) f w =
-      let n : ℕ = batchLengthOf (batchAsked q c) in
+      let n : ℕ = batchLengthOf (q .mode) (batchAsked q c) in
       let a : AsksLength q n = record { codec-none = e; content = c; asked = record { place = p; is = f }; length-is = refl } in
       elim (decLe n mostLength) [
         | yes h ↦
@@ -119,9 +120,9 @@ module _ (q : Request) (out : List ℕ) where
   unfolding batchGiven
   length-due {n} a =
       let b : Batch Record = batchAsked q (a .content) in
-      let long : length (writtenBatch b) ≡ uncounted + n = lengths-are b ∙ ap (λ (k : ℕ). uncounted + k) (a .length-is) in
+      let long : length (writtenBatch (q .mode) b) ≡ uncounted + n = lengths-are (q .mode) b ∙ ap (λ (k : ℕ). uncounted + k) (a .length-is) in
       rw (eq-eqb (q .codec) 0 (a .codec-none), a .asked .is)
-      (due-by (leb (batchLengthOf b) mostLength) (writtenBatch b) out (uncounted + n) long
+      (due-by (leb (batchLengthOf (q .mode) b) mostLength) (writtenBatch (q .mode) b) out (uncounted + n) long
       ∙ ap (λ (k : ℕ). byLengths (leb k mostLength) (leb (uncounted + n) (length out)) (uncounted + n)) (a .length-is))
 
   told-due : {k : ℕ} → Told q out k → due .number ≡ k

@@ -25,6 +25,7 @@ use Rattle.writing.specs.Promises.{WriteOutcome, WriteBy}
 use Rattle.writing.proofs.Single.{single-written}
 use Rattle.writing.proofs.Outcomes.{Numbered, numbers, put}
 use Rattle.layout.specs.Batch.{Fields, Content, records}
+use Rattle.layout.specs.declared.ControlMode.{ControlMode}
 use Rattle.batches.specs.Answers.{viewFields}
 use Rattle.batches.specs.Writer.{batchLengthOf, writtenBatch, Wanted, marker, rows, viewWanted, contentAsked, mostLength, batchGivenBy, batchGiven}
 use Rattle.batches.specs.Request.{Request}
@@ -38,21 +39,21 @@ pub pick-numbered : (t : Bool) (g : Given) (n : ℕ) → Numbered g → 0 < n �
 pick-numbered true g n w h = w
 pick-numbered false g n w h = h
 
-given-by-numbered : (x : Fields) (s : List ℕ) (asked : Step RowPlace (Content RecordSpans)) → RefusedBy RowFault asked
-    → Numbered (batchGivenBy x s asked)
-given-by-numbered x s (ok c p) w =
-    pick-numbered (leb (batchLengthOf (shows x s c)) mostLength) (given (writtenBatch (shows x s c))) 23 tt (omega arith)
-given-by-numbered x s (no n) (l, h) = omega arith
+given-by-numbered : (mode : ControlMode) (x : Fields) (s : List ℕ) (asked : Step RowPlace (Content RecordSpans)) → RefusedBy RowFault asked
+    → Numbered (batchGivenBy mode x s asked)
+given-by-numbered mode x s (ok c p) w =
+    pick-numbered (leb (batchLengthOf mode (shows x s c)) mostLength) (given (writtenBatch mode (shows x s c))) 23 tt (omega arith)
+given-by-numbered mode x s (no n) (l, h) = omega arith
 
 pub content-refused : (wanted : Wanted) (t : Tables) (s : List ℕ) → RefusedBy RowFault (contentAsked wanted t s)
 content-refused (marker m) t s = tt
 content-refused (rows n) t s = map-refused RowFault records (recordsAsked t s 0 n) (records-refused t s 0 n)
 
-pub given-numbered : (x : Fields) (codec : ℕ) (wanted : Wanted) (t : Tables) (s : List ℕ) → Numbered (batchGiven x codec wanted t s)
+pub given-numbered : (mode : ControlMode) (x : Fields) (codec : ℕ) (wanted : Wanted) (t : Tables) (s : List ℕ) → Numbered (batchGiven mode x codec wanted t s)
 unfolding batchGiven
-given-numbered x codec wanted t s =
-    pick-numbered (eqb codec 0) (batchGivenBy x s (contentAsked wanted t s)) 20
-    (given-by-numbered x s (contentAsked wanted t s) (content-refused wanted t s)) (omega arith)
+given-numbered mode x codec wanted t s =
+    pick-numbered (eqb codec 0) (batchGivenBy mode x s (contentAsked wanted t s)) 20
+    (given-by-numbered mode x s (contentAsked wanted t s) (content-refused wanted t s)) (omega arith)
 
 -- ---- what was given
 
@@ -60,16 +61,16 @@ pub written : Written
 written q out o n promise e =
     let x = viewFields (q .batch) in
     let wanted = viewWanted (q .kind) in
-    let p = put (batchGiven x (q .codec) wanted (q .tables) (q .source)) (given-numbered x (q .codec) wanted (q .tables) (q .source)) 0 n out o
+    let p = put (batchGiven (q .mode) x (q .codec) wanted (q .tables) (q .source)) (given-numbered (q .mode) x (q .codec) wanted (q .tables) (q .source)) 0 n out o
     (ap viewWritten (sym e) ∙ promise .by .answer) (promise .by .output) in
-    let g = given-for x (q .codec) wanted (q .tables) (q .source) (p .is) in
+    let g = given-for (q .mode) x (q .codec) wanted (q .tables) (q .source) (p .is) in
     record {
       bytes = p .bytes;
       length-is = p .length-is;
       output-is = p .output-is ∙ ap (λ (k : ℕ). p .bytes ++ drop k out) (zero-add (length (p .bytes)) ∙ p .length-is);
       content = g .content;
       asked = record { place = g .place; is = g .is };
-      encodes = given-encodes x wanted (q .tables) (q .source) (promise .handed .fields) (promise .handed .source) g;
+      encodes = given-encodes (q .mode) x wanted (q .tables) (q .source) (promise .handed .fields) (promise .handed .source) g;
     }
 
 -- the output begins with it
@@ -119,4 +120,4 @@ write-measures q out o r e f = measures _ out o r (e .by) f
 
 pub marker-alone : MarkerAlone
 unfolding batchGiven
-marker-alone x codec m t t′ s s′ = refl
+marker-alone mode x codec m t t′ s s′ = refl

@@ -1,10 +1,12 @@
 -- Demand 3. The user's words, sentence by sentence, each followed by its statement. What proves each stands in proofs/
 -- under the statement's name in small letters: `stands : Stands`.
 --
--- The words that are used: `judge` (crates/opening/specs/Judgement.antt) is what document 01 answers where rows are
--- enough, which is demand 2's answer (Demand2.antt says it by Kafka's format alone). `ReadPromise` (Promises.antt) is
--- what `RecordBatch::read` promises on some bytes and some tables: its result, and both tables at exit. A result says
--- document 01's number and the values named with it (`viewRead`, Answers.antt). A longer beginning is `s ++ after`.
+-- The words that are used: `judge` (crates/opening/specs/Judgement.antt) is what document 01, as C-16 has it, answers
+-- where rows are enough, which is demand 2's answer (Demand2.antt says it by Kafka's format alone). Each statement begins
+-- with the mode, by which a control batch's marker stands alone or in the key of a record. `ReadPromise`
+-- (Promises.antt) is what `RecordBatch::read` promises on some bytes and some tables: its result, and both tables at
+-- exit. A result says document 01's number and the values named with it (`viewRead`, Answers.antt). A longer beginning
+-- is `s ++ after`.
 --
 -- Of the first three sentences each is a statement of a judging function, and is then claimed for `judge`, the public
 -- reader's, and for every way of reading control batches, every place of the batch's first byte and every row of its
@@ -24,6 +26,7 @@ use Rattle.records.specs.Judgement.{RecordSpans}
 use Rattle.records.specs.Rows.{Tables}
 use Rattle.writing.specs.declared.Written.{Written}
 use Rattle.writing.specs.Promises.{WriteOutcome}
+use Rattle.layout.specs.declared.ControlMode.{ControlMode}
 use Rattle.layout.specs.Table.{table}
 use Rattle.layout.specs.Batch.{Content, Batch}
 use Rattle.layout.specs.Format.{BatchBytes}
@@ -82,7 +85,7 @@ StandsBy judging Reads =
     → (number o ≡ 1 → ⊥) → (number o ≡ 14 → ⊥) → Same (judging s) t t′ o o′
 
 abbrev pub Stands : Type 0
-Stands = StandsBy judge ReadPromise
+Stands = (mode : ControlMode) → StandsBy (judge mode) (ReadPromise mode)
 
 abbrev pub StandsWith : Type 0
 StandsWith = (way : Control) (at first : ℕ) → StandsBy (judgingWith way at first) (readingWith way at first)
@@ -90,14 +93,15 @@ StandsWith = (way : Control) (at first : ℕ) → StandsBy (judgingWith way at f
 -- And it is demand 2's, by the format alone: a batch stands there, or the first fault has that number (Demand2.antt).
 abbrev pub StandsByFormat : Type 0
 StandsByFormat =
-    (s : List ℕ) (t : Tables) (o : ReadOutcome) → ReadPromise s t o → (number o ≡ 1 → ⊥) → (number o ≡ 14 → ⊥) → DemandTwo s t o
+    (mode : ControlMode) (s : List ℕ) (t : Tables) (o : ReadOutcome) → ReadPromise mode s t o → (number o ≡ 1 → ⊥) → (number o ≡ 14 → ⊥)
+    → DemandTwo mode s t o
 
 -- The same of the judgement itself: what is not "more bytes" is not changed by any byte that follows.
 abbrev JudgeStandsBy : Judging → Type 0
 JudgeStandsBy judging = (s after : List ℕ) → ((n : ℕ) → judging s ≡ more n → ⊥) → judging (s ++ after) ≡ judging s
 
 abbrev pub JudgeStands : Type 0
-JudgeStands = JudgeStandsBy judge
+JudgeStands = (mode : ControlMode) → JudgeStandsBy (judge mode)
 
 abbrev pub JudgeStandsWith : Type 0
 JudgeStandsWith = (way : Control) (at first : ℕ) → JudgeStandsBy (judgingWith way at first)
@@ -105,7 +109,8 @@ JudgeStandsWith = (way : Control) (at first : ℕ) → JudgeStandsBy (judgingWit
 -- And of the check, which is lent no tables.
 abbrev pub CheckStands : Type 0
 CheckStands =
-    (s after : List ℕ) (r r′ : BatchCheck) → CheckPromise s r → CheckPromise (s ++ after) r′ → (viewCheck r .number ≡ 1 → ⊥) → r′ ≡ r
+    (mode : ControlMode) (s after : List ℕ) (r r′ : BatchCheck) → CheckPromise mode s r → CheckPromise mode (s ++ after) r′
+    → (viewCheck r .number ≡ 1 → ⊥) → r′ ≡ r
 
 -- "No room" stands too where the tables have as many rows.
 abbrev NoRoomStandsBy : Reading → Type 0
@@ -114,7 +119,7 @@ NoRoomStandsBy Reads =
     → roomsOf t′ ≡ roomsOf t → number o ≡ 14 → o′ .result ≡ o .result
 
 abbrev pub NoRoomStands : Type 0
-NoRoomStands = NoRoomStandsBy ReadPromise
+NoRoomStands = (mode : ControlMode) → NoRoomStandsBy (ReadPromise mode)
 
 abbrev pub NoRoomStandsWith : Type 0
 NoRoomStandsWith = (way : Control) (at first : ℕ) → NoRoomStandsBy (readingWith way at first)
@@ -127,7 +132,7 @@ RoomFreeBy Reads =
     → (number o ≡ 0 → ⊥) → (number o ≡ 14 → ⊥) → (o′ .result ≡ o .result) × (o .tables ≡ t) × (o′ .tables ≡ t′)
 
 abbrev pub RoomFree : Type 0
-RoomFree = RoomFreeBy ReadPromise
+RoomFree = (mode : ControlMode) → RoomFreeBy (ReadPromise mode)
 
 abbrev pub RoomFreeWith : Type 0
 RoomFreeWith = (way : Control) (at first : ℕ) → RoomFreeBy (readingWith way at first)
@@ -143,7 +148,9 @@ pub data Lacks (s : List ℕ) (at : ℕ) : ℕ → Type 0 where
       → length s < at + (12 + n) → Lacks s at (12 + n)
 
 abbrev pub MoreBytes : Type 0
-MoreBytes = (s : List ℕ) (t : Tables) (o : ReadOutcome) (n : ℕ) → ReadPromise s t o → Exactly (o .result ≡ BatchRead.MoreBytes n) (Lacks s 0 n)
+MoreBytes =
+    (mode : ControlMode) (s : List ℕ) (t : Tables) (o : ReadOutcome) (n : ℕ) → ReadPromise mode s t o
+    → Exactly (o .result ≡ BatchRead.MoreBytes n) (Lacks s 0 n)
 
 abbrev pub MoreBytesWith : Type 0
 MoreBytesWith =
@@ -154,17 +161,17 @@ MoreBytesWith =
 
 abbrev pub NoRoom : Type 0
 NoRoom =
-    (s : List ℕ) (t : Tables) (o : ReadOutcome) (n m : ℕ) → ReadPromise s t o
+    (mode : ControlMode) (s : List ℕ) (t : Tables) (o : ReadOutcome) (n m : ℕ) → ReadPromise mode s t o
     → Exactly (o .result ≡ BatchRead.NoRoom n m)
-    ((b : Accepted) × (judge s ≡ accepted b) × (recordsIn (b .content) ≡ n) × (headersOf (b .content) ≡ m)
+    ((b : Accepted) × (judge mode s ≡ accepted b) × (recordsIn (b .content) ≡ n) × (headersOf (b .content) ≡ m)
     × ((length (t .records) / 8 < n) ⊎ (length (t .headers) / 4 < m)))
 
 -- The same by the format alone: a batch stands there, and a table is short of its rows.
 abbrev pub NoRoomByFormat : Type 0
 NoRoomByFormat =
-    (s : List ℕ) (t : Tables) (o : ReadOutcome) (n m : ℕ) → ReadPromise s t o
+    (mode : ControlMode) (s : List ℕ) (t : Tables) (o : ReadOutcome) (n m : ℕ) → ReadPromise mode s t o
     → Exactly (o .result ≡ BatchRead.NoRoom n m)
-    ((b : Batch Record) × (q : ℕ) × (e : Encoding (BatchBytes false) s 0 q b) × (recordsIn (spansOf (e .encodes)) ≡ n)
+    ((b : Batch Record) × (q : ℕ) × (e : Encoding (BatchBytes mode false) s 0 q b) × (recordsIn (spansOf (e .encodes)) ≡ n)
     × (headersOf (spansOf (e .encodes)) ≡ m) × ((length (t .records) / 8 < n) ⊎ (length (t .headers) / 4 < m)))
 
 abbrev NoRoomBy : Judging → Type 0
@@ -196,5 +203,5 @@ pub record SameBatch (q : Request) (c : Content RecordSpans) (n : ℕ) (s : List
 abbrev pub ReadsBack : Type 0
 ReadsBack =
     (q : Request) (c : Content RecordSpans) (out : List ℕ) (o : WriteOutcome) (n : ℕ) (after : List ℕ) (t : Tables) (o′ : ReadOutcome)
-    → Writes q out o → o .result ≡ Written.Bytes n → Asks q c → ReadPromise (take n (o .output) ++ after) t o′ → Enough c t
+    → Writes q out o → o .result ≡ Written.Bytes n → Asks q c → ReadPromise (q .mode) (take n (o .output) ++ after) t o′ → Enough c t
     → SameBatch q c n (take n (o .output) ++ after) t o′

@@ -15,6 +15,7 @@ use Rattle.reading.specs.Promises.{ReadOutcome as RecordsOutcome, ReadRecordsPr
 use Rattle.writing.specs.declared.Written.{Written}
 use Rattle.writing.specs.Answers.{given, viewWritten, measured}
 use Rattle.writing.specs.Promises.{WriteOutcome, WriteBy}
+use Rattle.layout.specs.declared.ControlMode.{ControlMode}
 use Rattle.layout.specs.declared.RecordTime.{RecordTime}
 use Rattle.layout.specs.Time.{recordTime, viewTime}
 use Rattle.layout.specs.Promises as Layout
@@ -33,9 +34,9 @@ abbrev pub TotalSizePromise : ℤ → ℤ → Type 0
 TotalSizePromise batchLength r = Layout.TotalSizePromise batchLength r
 
 -- RecordBatch::check, on bytes s
-pub record CheckPromise (s : List ℕ) (r : BatchCheck) : Type 0 where
+pub record CheckPromise (mode : ControlMode) (s : List ℕ) (r : BatchCheck) : Type 0 where
   pub lent : Bytes s
-  pub answer : viewCheck r ≡ answerWithRoom (judge s)
+  pub answer : viewCheck r ≡ answerWithRoom (judge mode s)
 
 -- the result of RecordBatch::read, with both tables at exit
 pub record ReadOutcome : Type 0 where
@@ -48,9 +49,9 @@ pub record ReadBy (j : Judgement) (t : Tables) (o : ReadOutcome) : Type 0 where
   pub tables : o .tables ≡ tablesOf j t
 
 -- RecordBatch::read, on bytes s and tables t
-pub record ReadPromise (s : List ℕ) (t : Tables) (o : ReadOutcome) : Type 0 where
+pub record ReadPromise (mode : ControlMode) (s : List ℕ) (t : Tables) (o : ReadOutcome) : Type 0 where
   pub lent : Bytes s
-  pub by : ReadBy (judge s) t o
+  pub by : ReadBy (judge mode s) t o
 
 -- BodyReader::new, of a lent body and a place: the reader holds that very body, and that place
 abbrev pub BodyReaderPromise : RefT (List ℕ) → ℕ → BodyReader → Type 0
@@ -75,24 +76,25 @@ abbrev pub RecordTimePromise : RecordBatch → ℤ → RecordTime → Type 0
 RecordTimePromise b delta r = viewTime r ≡ recordTime (viewFields b) delta
 
 -- RecordBatch::measure, of fields, a codec number, a kind, tables t and a source s
-abbrev pub MeasurePromise : RecordBatch → ℕ → ControlBatchOrRecords → Tables → List ℕ → Written → Type 0
-MeasurePromise b codec kind t s r = viewWritten r ≡ measured (batchGiven (viewFields b) codec (viewWanted kind) t s)
+abbrev pub MeasurePromise : ControlMode → RecordBatch → ℕ → ControlBatchOrRecords → Tables → List ℕ → Written → Type 0
+MeasurePromise mode b codec kind t s r = viewWritten r ≡ measured (batchGiven mode (viewFields b) codec (viewWanted kind) t s)
 
 -- RecordBatch::write, the same into an output
-pub record WritePromise (b : RecordBatch) (codec : ℕ) (kind : ControlBatchOrRecords) (t : Tables) (s out : List ℕ) (o : WriteOutcome)
+pub record WritePromise
+    (mode : ControlMode) (b : RecordBatch) (codec : ℕ) (kind : ControlBatchOrRecords) (t : Tables) (s out : List ℕ) (o : WriteOutcome)
     : Type 0 where
-  pub handed : Sensible (record { batch = b; codec = codec; kind = kind; tables = t; source = s })
-  pub by : WriteBy (batchGiven (viewFields b) codec (viewWanted kind) t s) 0 out o
+  pub handed : Sensible (record { mode = mode; batch = b; codec = codec; kind = kind; tables = t; source = s })
+  pub by : WriteBy (batchGiven mode (viewFields b) codec (viewWanted kind) t s) 0 out o
 
 -- Document 01, the canonical check: the bytes, all of them, are one batch that is accepted, and equal what the writer
 -- gives for it, from its own rows and these bytes.
-pub record Canonical (s : List ℕ) : Type 0 where
+pub record Canonical (mode : ControlMode) (s : List ℕ) : Type 0 where
   pub batch : Accepted
-  pub judged : judge s ≡ accepted batch
+  pub judged : judge mode s ≡ accepted batch
   pub whole : batch .consumed ≡ length s
-  pub rewritten : batchGiven (batch .fields) 0 (wantedOf (batch .content)) (ownTables (batch .content)) s ≡ given s
+  pub rewritten : batchGiven mode (batch .fields) 0 (wantedOf (batch .content)) (ownTables (batch .content)) s ≡ given s
 
 -- RecordBatch::is_canonical, on bytes s
-pub record CanonicalPromise (s : List ℕ) (r : Bool) : Type 0 where
+pub record CanonicalPromise (mode : ControlMode) (s : List ℕ) (r : Bool) : Type 0 where
   pub lent : Bytes s
-  pub says : Exactly (r ≡ true) (Canonical s)
+  pub says : Exactly (r ≡ true) (Canonical mode s)

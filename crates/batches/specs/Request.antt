@@ -5,12 +5,14 @@ use mathlib.Core.List.{List}
 use Rattle.numbers.specs.Bytes.{Bytes}
 use Rattle.numbers.specs.Format.{InBits}
 use Rattle.records.specs.Rows.{Tables}
+use Rattle.layout.specs.declared.ControlMode.{ControlMode}
 use Rattle.layout.specs.Batch.{Fields}
 use Rattle.batches.specs.declared.RecordBatch.{RecordBatch}
 use Rattle.batches.specs.declared.ControlBatchOrRecords.{ControlBatchOrRecords}
 use Rattle.batches.specs.Answers.{viewFields}
 
 pub record Request : Type 0 where
+  pub mode : ControlMode
   pub batch : RecordBatch
   pub codec : ℕ
   pub kind : ControlBatchOrRecords

@@ -18,6 +18,7 @@ use Rattle.asking.specs.RowFaults.{AskedWrong}
 use Rattle.writing.specs.declared.Written.{Written as WrittenAnswer}
 use Rattle.writing.specs.Answers.{Answer, viewWritten}
 use Rattle.writing.specs.Promises.{WriteOutcome}
+use Rattle.layout.specs.declared.ControlMode.{ControlMode}
 use Rattle.layout.specs.Table.{uncounted}
 use Rattle.layout.specs.Batch.{Fields, Marker, Content, Batch}
 use Rattle.layout.specs.Format.{BatchBytes}
@@ -33,10 +34,10 @@ use Rattle.batches.specs.Promises.{ReadOutcome, ReadPromise, MeasureProm
 -- ---- what is asked of the writer
 
 abbrev pub Measures : Request → WrittenAnswer → Type 0
-Measures q r = MeasurePromise (q .batch) (q .codec) (q .kind) (q .tables) (q .source) r
+Measures q r = MeasurePromise (q .mode) (q .batch) (q .codec) (q .kind) (q .tables) (q .source) r
 
 abbrev pub Writes : Request → List ℕ → WriteOutcome → Type 0
-Writes q out o = WritePromise (q .batch) (q .codec) (q .kind) (q .tables) (q .source) out o
+Writes q out o = WritePromise (q .mode) (q .batch) (q .codec) (q .kind) (q .tables) (q .source) out o
 
 -- what the rows ask for: a marker, or records whose spans lie in the source
 pub record Asks (q : Request) (c : Content RecordSpans) : Type 0 where
@@ -59,7 +60,7 @@ module _ (q : Request) where
     pub codec-none : q .codec ≡ 0
     pub content : Content RecordSpans
     pub asked : Asks q content
-    pub length-is : batchLengthOf (batchAsked q content) ≡ n
+    pub length-is : batchLengthOf (q .mode) (batchAsked q content) ≡ n
 
 -- Document 01, Writer's numbers: each is given exactly where it says.
 pub record WriteNumbersOf (q : Request) (out : List ℕ) (a : Answer) : Type 0 where
@@ -93,7 +94,7 @@ pub record WrittenAs (q : Request) (out : List ℕ) (o : WriteOutcome) (n : ℕ)
   pub output-is : o .output ≡ bytes ++ drop n out
   pub content : Content RecordSpans
   pub asked : Asks q content
-  pub encodes : BatchBytes true bytes (batchAsked q content)
+  pub encodes : BatchBytes (q .mode) true bytes (batchAsked q content)
 
 abbrev pub Written : Type 0
 Written =
@@ -115,8 +116,8 @@ WriteMeasures =
 -- Document 01: a marker ignores both tables. So it does the source.
 abbrev pub MarkerAlone : Type 0
 MarkerAlone =
-    (x : Fields) (codec : ℕ) (m : Marker) (t t′ : Tables) (s s′ : List ℕ)
-    → batchGiven x codec (marker m) t s ≡ batchGiven x codec (marker m) t′ s′
+    (mode : ControlMode) (x : Fields) (codec : ℕ) (m : Marker) (t t′ : Tables) (s s′ : List ℕ)
+    → batchGiven mode x codec (marker m) t s ≡ batchGiven mode x codec (marker m) t′ s′
 
 -- ---- reading and writing again
 
@@ -124,28 +125,29 @@ MarkerAlone =
 -- with its own bytes as the source, in no more bytes than it had.
 abbrev pub Rewritable : Type 0
 Rewritable =
-    (s : List ℕ) (t : Tables) (o : ReadOutcome) (b : RecordBatch) (kind : ControlBatchOrRecords) (headers consumed : ℕ) (r : WrittenAnswer)
-    → ReadPromise s t o → o .result ≡ BatchRead.Accepted b kind headers consumed
-    → Measures (record { batch = b; codec = 0; kind = kind; tables = o .tables; source = s }) r
+    (mode : ControlMode) (s : List ℕ) (t : Tables) (o : ReadOutcome) (b : RecordBatch) (kind : ControlBatchOrRecords) (headers consumed : ℕ)
+    (r : WrittenAnswer) → ReadPromise mode s t o → o .result ≡ BatchRead.Accepted b kind headers consumed
+    → Measures (record { mode = mode; batch = b; codec = 0; kind = kind; tables = o .tables; source = s }) r
     → (n : ℕ) × (r ≡ WrittenAnswer.Bytes n) × (n ≤ consumed)
 
 -- The canonical check says yes exactly to the strict grammar's bytes.
 abbrev pub CanonicalStrict : Type 0
-CanonicalStrict = (s : List ℕ) (r : Bool) → CanonicalPromise s r → Exactly (r ≡ true) ((b : Batch Record) × BatchBytes true s b)
+CanonicalStrict =
+    (mode : ControlMode) (s : List ℕ) (r : Bool) → CanonicalPromise mode s r → Exactly (r ≡ true) ((b : Batch Record) × BatchBytes mode true s b)
 
 -- What the writer gives is canonical.
 abbrev pub WrittenCanonical : Type 0
 WrittenCanonical =
     (q : Request) (out : List ℕ) (o : WriteOutcome) (n : ℕ) (r : Bool) → Writes q out o
-    → o .result ≡ WrittenAnswer.Bytes n → CanonicalPromise (take n (o .output)) r → r ≡ true
+    → o .result ≡ WrittenAnswer.Bytes n → CanonicalPromise (q .mode) (take n (o .output)) r → r ≡ true
 
 -- A canonical batch that is read and written again is itself.
 abbrev pub CanonicalAgain : Type 0
 CanonicalAgain =
-    (s : List ℕ) (t : Tables) (o : ReadOutcome) (b : RecordBatch) (kind : ControlBatchOrRecords) (headers consumed : ℕ)
-    (out : List ℕ) (w : WriteOutcome) → CanonicalPromise s true → ReadPromise s t o
+    (mode : ControlMode) (s : List ℕ) (t : Tables) (o : ReadOutcome) (b : RecordBatch) (kind : ControlBatchOrRecords) (headers consumed : ℕ)
+    (out : List ℕ) (w : WriteOutcome) → CanonicalPromise mode s true → ReadPromise mode s t o
     → o .result ≡ BatchRead.Accepted b kind headers consumed → length s ≤ length out
-    → Writes (record { batch = b; codec = 0; kind = kind; tables = o .tables; source = s }) out w
+    → Writes (record { mode = mode; batch = b; codec = 0; kind = kind; tables = o .tables; source = s }) out w
     → (w .result ≡ WrittenAnswer.Bytes (length s)) × (w .output ≡ s ++ drop (length s) out)
 
 -- ---- one batch, one writing
@@ -153,14 +155,16 @@ CanonicalAgain =
 -- Two different batches never give the same bytes.
 abbrev pub WrittenApart : Type 0
 WrittenApart =
-    (q q′ : Request) (out out′ : List ℕ) (o o′ : WriteOutcome) (n n′ : ℕ) (c c′ : Content RecordSpans) → Writes q out o → Writes q′ out′ o′
+    (q q′ : Request) (out out′ : List ℕ) (o o′ : WriteOutcome) (n n′ : ℕ) (c c′ : Content RecordSpans) → q .mode ≡ q′ .mode
+    → Writes q out o → Writes q′ out′ o′
     → o .result ≡ WrittenAnswer.Bytes n → o′ .result ≡ WrittenAnswer.Bytes n′ → Asks q c → Asks q′ c′
     → take n (o .output) ≡ take n′ (o′ .output) → batchAsked q c ≡ batchAsked q′ c′
 
 -- Of all encodings of a batch the writer's is the shortest, and it is the only one of the strict grammar.
 abbrev pub WrittenShortest : Type 0
 WrittenShortest =
-    (strict : Bool) (bs bs′ : List ℕ) (b : Batch Record) → BatchBytes true bs b → BatchBytes strict bs′ b → length bs ≤ length bs′
+    (mode : ControlMode) (strict : Bool) (bs bs′ : List ℕ) (b : Batch Record) → BatchBytes mode true bs b → BatchBytes mode strict bs′ b
+    → length bs ≤ length bs′
 
 abbrev pub WrittenOnly : Type 0
-WrittenOnly = (bs bs′ : List ℕ) (b : Batch Record) → BatchBytes true bs b → BatchBytes true bs′ b → bs ≡ bs′
+WrittenOnly = (mode : ControlMode) (bs bs′ : List ℕ) (b : Batch Record) → BatchBytes mode true bs b → BatchBytes mode true bs′ b → bs ≡ bs′

@@ -11,16 +11,17 @@ use Rattle.numbers.specs.Bytes.{Bytes}
 use Rattle.numbers.specs.Exactly.{Exactly}
 use Rattle.primitives.specs.Step.{no}
 use Rattle.primitives.specs.Stands.{Stands, Encoding}
-use Rattle.primitives.specs.Shifted.{movedStep}
 use Rattle.crc32c.specs.Crc.{crc32c}
 use Rattle.records.specs.Format.{Record}
 use Rattle.records.specs.Judgement.{RecordSpans}
 use Rattle.records.specs.Rows.{Tables}
 use Rattle.records.specs.Statements.{sizes, total, movedRecord}
+use Rattle.layout.specs.declared.ControlMode.{ControlMode}
 use Rattle.layout.specs.Table.{table}
-use Rattle.layout.specs.Batch.{Content, control, records, Batch}
+use Rattle.layout.specs.Batch.{Fields, Marker, Content, control, records, Batch}
 use Rattle.layout.specs.Format.{ContentBytes, BatchBytes}
-use Rattle.opening.specs.Judgement.{more, refused, accepted, Accepted, Judgement, unsignedIn, numberIn, attributesIn, Control, judgeWith, bareMarkerAt, judgeAt, judge}
+use Rattle.opening.specs.Judgement.{more, refused, accepted, Accepted, Judgement, unsignedIn, numberIn, attributesIn, Control, judgeWith, wayOf, judgeAt, judge}
+use Rattle.opening.specs.Statements.{Placeless}
 use Rattle.batches.specs.declared.BatchCheck.{BatchCheck}
 use Rattle.batches.specs.Placed.{placedBatch, shownBatch}
 use Rattle.batches.specs.Answers.{Standing, viewCheck, viewRead}
@@ -32,26 +33,26 @@ use Rattle.batches.specs.Promises.{CheckPromise, ReadOutcome, ReadPromis
 -- many bytes as are consumed, and each start is the place just after its own length.
 abbrev pub Sound : Type 0
 Sound =
-    (s : List ℕ) (at first : ℕ) (b : Accepted) → Bytes s → judgeAt s at first ≡ accepted b
-    → (e : Encoding (BatchBytes false) s at (at + b .consumed) (shownBatch s b)) × (b ≡ placedBatch at first (e .encodes))
+    (mode : ControlMode) (s : List ℕ) (at first : ℕ) (b : Accepted) → Bytes s → judgeAt mode s at first ≡ accepted b
+    → (e : Encoding (BatchBytes mode false) s at (at + b .consumed) (shownBatch s b)) × (b ≡ placedBatch at first (e .encodes))
 
 -- A batch that stands at any place of any list, with anything after it, is accepted, with its values and its length.
 abbrev pub Complete : Type 0
 Complete =
-    (strict : Bool) (s : List ℕ) (at first q : ℕ) (bs : List ℕ) (b : Batch Record) → Stands s at q bs → (g : BatchBytes strict bs b)
-    → (judgeAt s at first ≡ accepted (placedBatch at first g)) × (shownBatch s (placedBatch at first g) ≡ b)
+    (mode : ControlMode) (strict : Bool) (s : List ℕ) (at first q : ℕ) (bs : List ℕ) (b : Batch Record) → Stands s at q bs
+    → (g : BatchBytes mode strict bs b) → (judgeAt mode s at first ≡ accepted (placedBatch at first g)) × (shownBatch s (placedBatch at first g) ≡ b)
 
 -- Two batches with the same encoding are equal, and no encoding is a proper beginning of another.
 abbrev pub Unambiguous : Type 0
 Unambiguous =
-    (strict strict′ : Bool) (bs rest : List ℕ) (a b : Batch Record) → BatchBytes strict bs a → BatchBytes strict′ (bs ++ rest) b
-    → (rest ≡ []) × (a ≡ b)
+    (mode : ControlMode) (strict strict′ : Bool) (bs rest : List ℕ) (a b : Batch Record) → BatchBytes mode strict bs a
+    → BatchBytes mode strict′ (bs ++ rest) b → (rest ≡ []) × (a ≡ b)
 
 -- After a refusal 2 to 13 no list that begins with these bytes begins with a batch.
 abbrev pub Never : Type 0
 Never =
-    (strict : Bool) (s after bs rest : List ℕ) (b : Batch Record) (t : Tables) (o : ReadOutcome) → ReadPromise s t o
-    → Standing (viewRead (o .result) .number) → s ++ after ≡ bs ++ rest → BatchBytes strict bs b → ⊥
+    (mode : ControlMode) (strict : Bool) (s after bs rest : List ℕ) (b : Batch Record) (t : Tables) (o : ReadOutcome) → ReadPromise mode s t o
+    → Standing (viewRead (o .result) .number) → s ++ after ≡ bs ++ rest → BatchBytes mode strict bs b → ⊥
 
 -- ---- numbers
 
@@ -63,9 +64,9 @@ Within way = (s : List ℕ) (p n : ℕ) → way s p ≡ no n → Standing n
 abbrev pub Refusals : Type 0
 Refusals = (way : Control) → Within way → (s : List ℕ) (at first n : ℕ) → judgeWith way s at first ≡ refused n → Standing n
 
--- So does the bare marker.
-abbrev pub BareMarkerWithin : Type 0
-BareMarkerWithin = Within bareMarkerAt
+-- So does either mode's.
+abbrev pub WaysWithin : Type 0
+WaysWithin = (mode : ControlMode) → Within (wayOf mode)
 
 -- a signed number below n
 abbrev pub Below : ℤ → ℕ → Type 0
@@ -125,36 +126,62 @@ pub data FrontWrong (s : List ℕ) : ℕ → Type 0 where
 
 -- Numbers 2 to 7 are given exactly where document 01 says.
 abbrev pub Numbers : Type 0
-Numbers = (s : List ℕ) (n : ℕ) → n ≤ 7 → Exactly (judge s ≡ refused n) (FrontWrong s n)
+Numbers = (mode : ControlMode) (s : List ℕ) (n : ℕ) → n ≤ 7 → Exactly (judge mode s ≡ refused n) (FrontWrong s n)
+
+-- ---- the modes
+
+-- Where the control bit is not set both modes judge alike; and so they do where the answer is one of 1 to 7.
+abbrev pub ModesAgree : Type 0
+ModesAgree =
+    (mode mode′ : ControlMode) (s : List ℕ) (at first : ℕ) → attributesIn s at .control ≡ false
+    → judgeAt mode s at first ≡ judgeAt mode′ s at first
+
+abbrev pub EarlyAgree : Type 0
+EarlyAgree =
+    (mode mode′ : ControlMode) (s : List ℕ) (at first n : ℕ)
+    → (judgeAt mode s at first ≡ more n → judgeAt mode′ s at first ≡ more n)
+    × (n < 8 → judgeAt mode s at first ≡ refused n → judgeAt mode′ s at first ≡ refused n)
+
+-- No bytes are a control batch in both forms.
+abbrev pub FormsApart : Type 0
+FormsApart =
+    (strict strict′ : Bool) (bs : List ℕ) (x x′ : Fields) (m m′ : Marker)
+    → BatchBytes ControlMode.Bare strict bs (record { fields = x; content = control m })
+    → BatchBytes ControlMode.Keyed strict′ bs (record { fields = x′; content = control m′ }) → ⊥
 
 -- ---- tables, and the check
 
 -- Document 01: every refusal changes no table. Whatever is answered but 0, both tables are at exit what they were.
 abbrev pub Untouched : Type 0
 Untouched =
-    (s : List ℕ) (t : Tables) (o : ReadOutcome) → ReadPromise s t o → (viewRead (o .result) .number ≡ 0 → ⊥) → o .tables ≡ t
+    (mode : ControlMode) (s : List ℕ) (t : Tables) (o : ReadOutcome) → ReadPromise mode s t o → (viewRead (o .result) .number ≡ 0 → ⊥) → o .tables ≡ t
 
 -- The check answers what the reader answers, unless that is 14.
 abbrev pub CheckAgrees : Type 0
 CheckAgrees =
-    (s : List ℕ) (r : BatchCheck) (t : Tables) (o : ReadOutcome) → CheckPromise s r → ReadPromise s t o
+    (mode : ControlMode) (s : List ℕ) (r : BatchCheck) (t : Tables) (o : ReadOutcome) → CheckPromise mode s r → ReadPromise mode s t o
     → (viewRead (o .result) .number ≡ 14 → ⊥) → viewCheck r ≡ viewRead (o .result)
 
 -- ---- sizes
 
--- the sizes of the records add up to batchLength - 49; with the bare marker batchLength is 53
-abbrev pub SizesOf : (strict : Bool) (bs : List ℕ) (c : Content Record) → ContentBytes strict bs c → ℕ → Type 0
-SizesOf strict bs (control m) g n = n ≡ 53
-SizesOf strict bs (records rs) g n = n ≡ 49 + total (sizes g)
+-- with the bare marker batchLength is 53; a keyed marker's record has batchLength - 49 bytes
+abbrev pub MarkedSize : ControlMode → List ℕ → ℕ → Type 0
+MarkedSize ControlMode.Bare bs n = n ≡ 53
+MarkedSize ControlMode.Keyed bs n = n ≡ 49 + length bs
+
+-- the sizes of the records add up to batchLength - 49
+abbrev pub SizesOf : (mode : ControlMode) (strict : Bool) (bs : List ℕ) (c : Content Record) → ContentBytes mode strict bs c → ℕ → Type 0
+SizesOf mode strict bs (control m) g n = MarkedSize mode bs n
+SizesOf mode strict bs (records rs) g n = n ≡ 49 + total (sizes g)
 
 -- In an accepted batch of records the sizes of the records as they stand add up to batchLength - 49; with the bare
--- marker batchLength is 53.
+-- marker batchLength is 53, and with a keyed one 49 and the size of its record.
 abbrev pub Sizes : Type 0
 Sizes =
-    (s : List ℕ) (at first : ℕ) (b : Accepted) → Bytes s → judgeAt s at first ≡ accepted b
-    → (e : Encoding (BatchBytes false) s at (at + b .consumed) (shownBatch s b)) × (n : ℕ)
+    (mode : ControlMode) (s : List ℕ) (at first : ℕ) (b : Accepted) → Bytes s → judgeAt mode s at first ≡ accepted b
+    → (e : Encoding (BatchBytes mode false) s at (at + b .consumed) (shownBatch s b)) × (n : ℕ)
     × (numberIn (table .batchLength) s at ≡ pos n) × (b .consumed ≡ 12 + n)
-    × SizesOf false (e .encodes .body) (shownBatch s b .content) (e .encodes .holds) n
+    × SizesOf mode false (e .encodes .body) (shownBatch s b .content) (e .encodes .holds) n
 
 -- ---- the place, and the first header row
 
@@ -170,19 +197,11 @@ movedJudgement f (more n) = more n
 movedJudgement f (refused n) = refused n
 movedJudgement f (accepted b) = accepted (f b)
 
--- a way of reading control batches to which the place is nothing but where it reads
-abbrev pub Placeless : Control → Type 0
-Placeless way = (front s : List ℕ) (p : ℕ) → way (front ++ s) (length front + p) ≡ movedStep (λ m. m) (length front) (way s p)
-
 -- A place moves the starts, and nothing else.
 abbrev pub PlaceShifted : Type 0
 PlaceShifted =
     (way : Control) → Placeless way → (front s : List ℕ) (at first : ℕ)
     → judgeWith way (front ++ s) (length front + at) first ≡ movedJudgement (movedAccepted (length front)) (judgeWith way s at first)
-
--- The bare marker is read in such a way.
-abbrev pub BareMarkerPlaceless : Type 0
-BareMarkerPlaceless = Placeless bareMarkerAt
 
 -- A first header row is that of the rows, and nothing else.
 abbrev pub FirstHeaderShifted : Type 0

@@ -16,19 +16,21 @@ use Rattle.records.specs.Judgement.{RecordSpans}
 use Rattle.records.specs.Rows.{Tables, tables, headersIn, withRows}
 use Rattle.asking.specs.Asked.{RowPlace, rowPlace, recordsAsked}
 use Rattle.writing.specs.Answers.{Given, given, refused}
+use Rattle.layout.specs.declared.ControlMode.{ControlMode}
 use Rattle.layout.specs.Fixed.{fixedFields}
-use Rattle.layout.specs.Table.{FixedFields, unchecked, uncountedFields, uncheckedFields, checkedFields}
+use Rattle.layout.specs.Table.{FixedFields, fixedPart, unchecked, uncountedFields, uncheckedFields, checkedFields}
 use Rattle.layout.specs.Batch.{Fields, Marker, Content, control, records, Batch}
 use Rattle.layout.specs.Format.{attributesOf, howMany}
-use Rattle.markers.specs.Markers.{writtenMarker, viewMarker}
+use Rattle.markers.specs.Markers.{viewMarker}
+use Rattle.markers.specs.Forms.{writesOf, sizeOf}
 use Rattle.batches.specs.declared.ControlBatchOrRecords.{ControlBatchOrRecords}
 use Rattle.batches.specs.Placed.{shownContent}
 
 -- ---- the bytes of a batch
 
-unfoldable pub writtenContent : Content Record → List ℕ
-writtenContent (control m) = writtenMarker m
-writtenContent (records rs) = writtenRecords rs
+unfoldable pub writtenContent : ControlMode → Content Record → List ℕ
+writtenContent mode (control m) = writesOf mode m
+writtenContent mode (records rs) = writtenRecords rs
 
 -- the fixed fields, around a batchLength and a checksum
 abbrev pub writtenFixed : Batch Record → ℕ → ℕ → FixedFields (List ℕ)
@@ -36,17 +38,21 @@ writtenFixed b batchLength crc =
     fixedFields (b .fields) (pos batchLength) crc (pos (attributesOf true 0 b)) (pos (howMany (b .content)))
 
 -- what the checksum is over, which holds neither of the two
-unfoldable pub checkedBytes : Batch Record → List ℕ
-checkedBytes b = concat (checkedFields (writtenFixed b 0 0)) ++ writtenContent (b .content)
+unfoldable pub checkedBytes : ControlMode → Batch Record → List ℕ
+checkedBytes mode b = concat (checkedFields (writtenFixed b 0 0)) ++ writtenContent mode (b .content)
 
 -- document 01, Fixed fields: all bytes after it
-unfoldable pub batchLengthOf : Batch Record → ℕ
-batchLengthOf b = unchecked + length (checkedBytes b)
+unfoldable pub batchLengthOf : ControlMode → Batch Record → ℕ
+batchLengthOf mode b = unchecked + length (checkedBytes mode b)
 
-unfoldable pub writtenBatch : Batch Record → List ℕ
-writtenBatch b =
-    let fixed : FixedFields (List ℕ) = writtenFixed b (batchLengthOf b) (crc32c (checkedBytes b)) in
-    concat (uncountedFields fixed) ++ (concat (uncheckedFields fixed) ++ checkedBytes b)
+unfoldable pub writtenBatch : ControlMode → Batch Record → List ℕ
+writtenBatch mode b =
+    let fixed : FixedFields (List ℕ) = writtenFixed b (batchLengthOf mode b) (crc32c (checkedBytes mode b)) in
+    concat (uncountedFields fixed) ++ (concat (uncheckedFields fixed) ++ checkedBytes mode b)
+
+-- a whole control batch
+abbrev pub markedSize : ControlMode → ℕ
+markedSize mode = fixedPart + sizeOf mode
 
 -- ---- what is asked for
 
@@ -68,15 +74,15 @@ contentAsked (rows n) t s = mapStep records (recordsAsked t s 0 n)
 abbrev pub mostLength : ℕ
 mostLength = 2147483647
 
-abbrev pub batchGivenBy : Fields → List ℕ → Step RowPlace (Content RecordSpans) → Given
-batchGivenBy x s (ok c p) =
+abbrev pub batchGivenBy : ControlMode → Fields → List ℕ → Step RowPlace (Content RecordSpans) → Given
+batchGivenBy mode x s (ok c p) =
     let b : Batch Record = record { fields = x; content = shownContent s c } in
-    pick (leb (batchLengthOf b) mostLength) (given (writtenBatch b)) (refused 23)
-batchGivenBy x s (no n) = refused n
+    pick (leb (batchLengthOf mode b) mostLength) (given (writtenBatch mode b)) (refused 23)
+batchGivenBy mode x s (no n) = refused n
 
 -- document 01, Writer's numbers, in their order; 24 is the output's
-unfoldable pub batchGiven : Fields → ℕ → Wanted → Tables → List ℕ → Given
-batchGiven x codec wanted t s = pick (eqb codec 0) (batchGivenBy x s (contentAsked wanted t s)) (refused 20)
+unfoldable pub batchGiven : ControlMode → Fields → ℕ → Wanted → Tables → List ℕ → Given
+batchGiven mode x codec wanted t s = pick (eqb codec 0) (batchGivenBy mode x s (contentAsked wanted t s)) (refused 20)
 
 -- ---- a batch asked for as it was read
 

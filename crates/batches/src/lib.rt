@@ -6,6 +6,7 @@ use asking::WriteFault;
 use body::read_body;
 use canonical::canonical_records;
 use layout::BatchFields;
+use layout::ControlMode;
 use layout::Producer;
 use layout::RecordBatchTimestampType;
 use layout::RecordTime;
@@ -35,12 +36,12 @@ ghost use Rattle.layout.specs.Table.{table, uncounted, fixedPart};
 ghost use Rattle.layout.specs.Batch.{control};
 ghost use Rattle.layout.specs.Format.{bit, attributesFor};
 ghost use Rattle.layout.specs.Fixed.{viewBatchFields, fixedBefore};
-ghost use Rattle.opening.specs.Judgement.{bareMarkerAt, judgeAt};
+ghost use Rattle.opening.specs.Judgement.{wayOf, judgeAt};
 ghost use Rattle.opening.specs.Opened.{judgedAs};
 ghost use Rattle.markers.specs.Markers.{viewMarker};
 ghost use Rattle.batches.specs.Answers.{viewFields, viewCheck, viewRead, answerWithRoom};
 ghost use Rattle.batches.specs.Reading.{tight, checkOfRecordsRead, ofRecordsRead, Laid};
-ghost use Rattle.batches.specs.Writer.{writtenBatch, mostLength, rows, contentAsked, batchGivenBy};
+ghost use Rattle.batches.specs.Writer.{markedSize, writtenBatch, mostLength, rows, contentAsked, batchGivenBy};
 ghost use Rattle.batches.specs.Promises.{TotalSizePromise, CheckPromise, ReadBy, ReadPromise, RecordTimePromise, MeasurePromise, WritePromise, CanonicalPromise};
 
 // The fields of a batch that are handed out and in; all else is worked out.
@@ -93,9 +94,6 @@ pub enum BatchRead {
 }
 
 impl RecordBatch {
-    // A whole control batch.
-    const MARKED: usize = 65;
-
     // The bytes of a batch, from any batchLength.
     pub fn total_size(batch_length: i32) -> i64
         ensures { λ r. ⌜ TotalSizePromise «batch_length» r ⌝ }
@@ -104,18 +102,23 @@ impl RecordBatch {
     }
 
     // What the bytes begin with, by themselves: no table is needed to judge them.
-    pub fn check(bytes: &[u8]) -> BatchCheck
-        ensures { λ r. ⌜ CheckPromise (now (bytes .entry)) r ⌝ }
+    pub fn check(mode: ControlMode, bytes: &[u8]) -> BatchCheck
+        ensures { λ r. ⌜ CheckPromise mode (now (bytes .entry)) r ⌝ }
     {
-        check_at(bytes, 0)
+        check_at(mode, bytes, 0)
     }
 
     // The same, and the rows of its records and of their headers in both tables. Starts count from the first byte. No
     // table is touched before all is known to be right and to have room.
-    pub fn read(bytes: &[u8], records: &mut [i64], headers: &mut [i64]) -> BatchRead
-        ensures { λ r. ⌜ ReadPromise (now (bytes .entry)) (tables (now (records .entry)) (now (headers .entry))) (record { result = r; tables = tables (now (records .exit)) (now (headers .exit)) }) ⌝ }
+    pub fn read(
+        mode: ControlMode,
+        bytes: &[u8],
+        records: &mut [i64],
+        headers: &mut [i64],
+    ) -> BatchRead
+        ensures { λ r. ⌜ ReadPromise mode (now (bytes .entry)) (tables (now (records .entry)) (now (headers .entry))) (record { result = r; tables = tables (now (records .exit)) (now (headers .exit)) }) ⌝ }
     {
-        read_at(bytes, 0, 0, records, headers)
+        read_at(mode, bytes, 0, 0, records, headers)
     }
 
     // The time of a record with this delta.
@@ -129,19 +132,20 @@ impl RecordBatch {
     // spans lie in the source. A marker looks at neither.
     pub fn measure(
         self,
+        mode: ControlMode,
         codec: u8,
         kind: ControlBatchOrRecords,
         records: &[i64],
         headers: &[i64],
         source: &[u8],
     ) -> Written
-        ensures { λ r. ⌜ MeasurePromise self codec kind (tables (now (records .entry)) (now (headers .entry))) (now (source .entry)) r ⌝ }
+        ensures { λ r. ⌜ MeasurePromise mode self codec kind (tables (now (records .entry)) (now (headers .entry))) (now (source .entry)) r ⌝ }
     {
         if codec != 0 {
             return Written::Refused(WriteFault::Codec);
         }
         match kind {
-            ControlBatchOrRecords::ControlBatch(_) => Written::Bytes(RecordBatch::MARKED),
+            ControlBatchOrRecords::ControlBatch(_) => Written::Bytes(marked(mode)),
             ControlBatchOrRecords::Records(count) => match measure_records(
                 records,
                 headers,
@@ -158,6 +162,7 @@ impl RecordBatch {
     // Writes the batch to the output's start. A refusal leaves the output as it was.
     pub fn write(
         self,
+        mode: ControlMode,
         codec: u8,
         kind: ControlBatchOrRecords,
         records: &[i64],
@@ -165,15 +170,21 @@ impl RecordBatch {
         source: &[u8],
         output: &mut [u8],
     ) -> Written
-        ensures { λ r. ⌜ WritePromise self codec kind (tables (now (records .entry)) (now (headers .entry))) (now (source .entry)) (now (output .entry)) (record { result = r; output = now (output .exit) }) ⌝ }
+        ensures { λ r. ⌜ WritePromise mode self codec kind (tables (now (records .entry)) (now (headers .entry))) (now (source .entry)) (now (output .entry)) (record { result = r; output = now (output .exit) }) ⌝ }
     {
         let fields = self.fields();
         if codec != 0 {
             return Written::Refused(WriteFault::Codec);
         }
         match kind {
-            ControlBatchOrRecords::ControlBatch(marker) => write_marker(fields, marker, output),
+            ControlBatchOrRecords::ControlBatch(marker) => write_marker(
+                mode,
+                fields,
+                marker,
+                output,
+            ),
             ControlBatchOrRecords::Records(count) => write_rows(
+                mode,
                 fields,
                 count,
                 records,
@@ -185,8 +196,8 @@ impl RecordBatch {
     }
 
     // Whether the bytes, all of them, are one batch as the writer gives it.
-    pub fn is_canonical(bytes: &[u8]) -> bool
-        ensures { λ r. ⌜ CanonicalPromise (now (bytes .entry)) r ⌝ }
+    pub fn is_canonical(mode: ControlMode, bytes: &[u8]) -> bool
+        ensures { λ r. ⌜ CanonicalPromise mode (now (bytes .entry)) r ⌝ }
     {
         match open_at(bytes, 0) {
             Opened::Got {
@@ -203,7 +214,7 @@ impl RecordBatch {
                     return false;
                 }
                 if is_control {
-                    return ControlBatchRecord::stands(bytes, next);
+                    return ControlBatchRecord::stands(mode, bytes, next);
                 }
                 canonical_records(bytes, next.at, count)
             }
@@ -214,8 +225,8 @@ impl RecordBatch {
 }
 
 // The batch that starts at `at`.
-fn check_at(bytes: &[u8], at: usize) -> BatchCheck
-    ensures { λ r. ⌜ viewCheck r ≡ answerWithRoom (judgeAt (now (bytes .entry)) at 0) ⌝ }
+fn check_at(mode: ControlMode, bytes: &[u8], at: usize) -> BatchCheck
+    ensures { λ r. ⌜ viewCheck r ≡ answerWithRoom (judgeAt mode (now (bytes .entry)) at 0) ⌝ }
 {
     match open_at(bytes, at) {
         Opened::Got {
@@ -228,7 +239,7 @@ fn check_at(bytes: &[u8], at: usize) -> BatchCheck
             let batch = RecordBatch::of(fields);
             let end = at + total;
             if is_control {
-                return check_marker(&bytes[..end], next, batch, total);
+                return check_marker(mode, &bytes[..end], next, batch, total);
             }
             let s = &bytes[..end];
             let mut no_records: [i64; 0] = [];
@@ -242,10 +253,16 @@ fn check_at(bytes: &[u8], at: usize) -> BatchCheck
 }
 
 // A control batch, from its marker on.
-fn check_marker(s: &[u8], c: Cursor, batch: RecordBatch, total: usize) -> BatchCheck
-    ensures { λ r. ⌜ viewCheck r ≡ answerWithRoom (judgedAs (viewFields batch) 0 total (mapStep control (bareMarkerAt (now (s .entry)) (c .at)))) ⌝ }
+fn check_marker(
+    mode: ControlMode,
+    s: &[u8],
+    c: Cursor,
+    batch: RecordBatch,
+    total: usize,
+) -> BatchCheck
+    ensures { λ r. ⌜ viewCheck r ≡ answerWithRoom (judgedAs (viewFields batch) 0 total (mapStep control (wayOf mode (now (s .entry)) (c .at)))) ⌝ }
 {
-    match ControlBatchRecord::read(s, c) {
+    match ControlBatchRecord::read(mode, s, c) {
         ControlBatchRecordRead::Got(marker, _) => BatchCheck::Accepted {
             batch,
             kind: ControlBatchOrRecords::ControlBatch(marker),
@@ -279,13 +296,14 @@ fn as_check(read: RecordsRead, batch: RecordBatch, total: usize) -> BatchCheck
 
 // The batch that starts at `at`, its header rows from `first_header_row` on.
 fn read_at(
+    mode: ControlMode,
     bytes: &[u8],
     at: usize,
     first_header_row: usize,
     records: &mut [i64],
     headers: &mut [i64],
 ) -> BatchRead
-    ensures { λ r. ⌜ ReadBy (judgeAt (now (bytes .entry)) at «first_header_row») (tables (now (records .entry)) (now (headers .entry))) (record { result = r; tables = tables (now (records .exit)) (now (headers .exit)) }) ⌝ }
+    ensures { λ r. ⌜ ReadBy (judgeAt mode (now (bytes .entry)) at «first_header_row») (tables (now (records .entry)) (now (headers .entry))) (record { result = r; tables = tables (now (records .exit)) (now (headers .exit)) }) ⌝ }
 {
     match open_at(bytes, at) {
         Opened::Got {
@@ -298,7 +316,7 @@ fn read_at(
             let batch = RecordBatch::of(fields);
             let end = at + total;
             if is_control {
-                return as_read(check_marker(&bytes[..end], next, batch, total));
+                return as_read(check_marker(mode, &bytes[..end], next, batch, total));
             }
             let s = &bytes[..end];
             let read = read_body(s, next.at, count, first_header_row, records, headers);
@@ -350,19 +368,36 @@ fn of_records(read: RecordsRead, batch: RecordBatch, total: usize) -> BatchRead
     }
 }
 
-fn write_marker(fields: BatchFields, marker: ControlBatchRecord, output: &mut [u8]) -> Written
-    ensures { λ r. ⌜ WriteBy (given (writtenBatch (record { fields = viewBatchFields fields; content = control (viewMarker marker) }))) 0 (now (output .entry)) (record { result = r; output = now (output .exit) }) ⌝ }
+// The bytes of a whole control batch.
+fn marked(mode: ControlMode) -> usize
+    ensures { λ r. ⌜ r ≡ markedSize mode ⌝ }
 {
-    if output.len() < RecordBatch::MARKED {
+    match mode {
+        ControlMode::Bare => 65,
+        ControlMode::Keyed => 72,
+    }
+}
+
+fn write_marker(
+    mode: ControlMode,
+    fields: BatchFields,
+    marker: ControlBatchRecord,
+    output: &mut [u8],
+) -> Written
+    ensures { λ r. ⌜ WriteBy (given (writtenBatch mode (record { fields = viewBatchFields fields; content = control (viewMarker marker) }))) 0 (now (output .entry)) (record { result = r; output = now (output .exit) }) ⌝ }
+{
+    let size = marked(mode);
+    if output.len() < size {
         return Written::Refused(WriteFault::ShortOutput);
     }
-    marker.put(output, BatchFields::FIXED);
-    finish(fields, true, Int32(1), RecordBatch::MARKED, output);
-    Written::Bytes(RecordBatch::MARKED)
+    marker.put(mode, output, BatchFields::FIXED);
+    finish(fields, true, Int32(1), size, output);
+    Written::Bytes(size)
 }
 
 // The records come first: the fixed fields in front of them have their length and checksum.
 fn write_rows(
+    mode: ControlMode,
     fields: BatchFields,
     count: usize,
     records: &[i64],
@@ -370,7 +405,7 @@ fn write_rows(
     source: &[u8],
     output: &mut [u8],
 ) -> Written
-    ensures { λ r. ⌜ WriteBy (batchGivenBy (viewBatchFields fields) (now (source .entry)) (contentAsked (rows count) (tables (now (records .entry)) (now (headers .entry))) (now (source .entry)))) 0 (now (output .entry)) (record { result = r; output = now (output .exit) }) ⌝ }
+    ensures { λ r. ⌜ WriteBy (batchGivenBy mode (viewBatchFields fields) (now (source .entry)) (contentAsked (rows count) (tables (now (records .entry)) (now (headers .entry))) (now (source .entry)))) 0 (now (output .entry)) (record { result = r; output = now (output .exit) }) ⌝ }
 {
     match write_records(
         records,

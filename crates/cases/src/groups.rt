@@ -6,7 +6,7 @@ ghost use Prim.Native.Nat.{_≤_, min};
 ghost use lib.ListN.{length};
 
 // How many bytes a text may have.
-pub const ROOM: usize = 262144;
+pub const ROOM: usize = 524288;
 
 pub enum Line {
     Heading,

@@ -3,13 +3,15 @@
 use Prim.Native.Nat.{ℕ, _+_, _*_}
 use mathlib.Core.Path.{_≡_}
 use mathlib.Core.Bool.{Bool, true, false}
-use mathlib.Core.List.{List, _++_}
+use mathlib.Core.Option.{none, some}
+use mathlib.Core.List.{List, [], _++_}
 use lib.IntN.{ℤ, pos, negsuc}
 use lib.ListN.{length}
 use Rattle.numbers.specs.Concat.{concat}
 use Rattle.numbers.specs.Format.{Unsigned, Integer}
 use Rattle.crc32c.specs.Crc.{crc32c}
-use Rattle.records.specs.Format.{Record, RecordsBytes}
+use Rattle.records.specs.Format.{Record, RecordBytes, RecordsBytes}
+use Rattle.layout.specs.declared.ControlMode.{ControlMode}
 use Rattle.layout.specs.Table.{FixedFields, table, uncountedFields, uncheckedFields, checkedFields}
 use Rattle.layout.specs.Batch.{TimestampType, createTime, logAppendTime, Marker, abort, commit, Content, control, records, Fields, Batch}
 
@@ -61,7 +63,6 @@ markerType commit = 1
 
 -- Kafka, message format, control batch: version and type.
 -- Limit of scope: version 0, types 0 and 1.
--- Exception, as in the Rust: they stand alone, and not in the key of a record.
 pub record MarkerBytes (bs : List ℕ) (m : Marker) : Type 0 where
   pub version : List ℕ
   pub kind : List ℕ
@@ -69,16 +70,41 @@ pub record MarkerBytes (bs : List ℕ) (m : Marker) : Type 0 where
   pub versioned : Integer 2 version (pos 0)
   pub typed : Integer 2 kind (pos (markerType m))
 
-abbrev pub ContentBytes : Bool → List ℕ → Content Record → Type 0
-ContentBytes strict bs (control m) = MarkerBytes bs m
-ContentBytes strict bs (records rs) = RecordsBytes strict bs rs
+-- the record whose key is a marker and that says nothing else
+abbrev pub markerRecord : List ℕ → Record
+markerRecord marker = record { timestampDelta = pos 0; offsetDelta = pos 0; key = some marker; value = none; headers = [] }
+
+abbrev pub Plain : Bool → Record → List ℕ → Type 0
+Plain false r marker = Unit {0}
+Plain true r marker = r ≡ markerRecord marker
+
+-- Kafka, message format, control batch: one record, whose key begins with the marker. The strict grammar wants the
+-- marker alone as its key, zero deltas, no value and no headers.
+pub record KeyedBytes (strict : Bool) (bs : List ℕ) (m : Marker) : Type 0 where
+  pub shows : Record
+  pub holds : RecordBytes strict bs shows
+  pub marker : List ℕ
+  pub rest : List ℕ
+  pub keyed : shows .key ≡ some (marker ++ rest)
+  pub marked : MarkerBytes marker m
+  pub plain : Plain strict shows marker
+
+-- What follows the fixed fields of a control batch.
+-- Exception in bare mode, as in the Rust: version and type stand alone, and not in the key of a record.
+unfoldable pub grammarOf : ControlMode → Bool → List ℕ → Marker → Type 0
+grammarOf ControlMode.Bare strict bs m = MarkerBytes bs m
+grammarOf ControlMode.Keyed strict bs m = KeyedBytes strict bs m
+
+abbrev pub ContentBytes : ControlMode → Bool → List ℕ → Content Record → Type 0
+ContentBytes mode strict bs (control m) = grammarOf mode strict bs m
+ContentBytes mode strict bs (records rs) = RecordsBytes strict bs rs
 
 -- ---- the batch
 
 -- Kafka, message format, record batch. The checksum is over all that follows it, batchLength is the number of bytes
 -- that follow it.
 -- Exception, as in the Rust: lastOffsetDelta and the timestamps are any integers, whatever the records are.
-pub record BatchBytes (strict : Bool) (bs : List ℕ) (b : Batch Record) : Type 0 where
+pub record BatchBytes (mode : ControlMode) (strict : Bool) (bs : List ℕ) (b : Batch Record) : Type 0 where
   pub part : FixedFields (List ℕ)  -- the bytes of each fixed field
   pub body : List ℕ  -- what follows them
   pub checked : List ℕ  -- what the checksum is over
@@ -102,4 +128,4 @@ pub record BatchBytes (strict : Bool) (bs : List ℕ) (b : Batch Record) : Type 
   pub baseSequence : Integer (table .baseSequence .bytes) (part .baseSequence) (b .fields .baseSequence)
   pub numbered : Integer (table .count .bytes) (part .count) count
   pub counts : Counts strict count (howMany (b .content))
-  pub holds : ContentBytes strict body (b .content)
+  pub holds : ContentBytes mode strict body (b .content)

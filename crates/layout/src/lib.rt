@@ -22,6 +22,12 @@ pub enum RecordBatchTimestampType {
     LogAppendTime,
 }
 
+// How the marker of a control batch stands: alone, as the Rust has it, or in the key of a record, as brokers write it.
+pub enum ControlMode {
+    Bare,
+    Keyed,
+}
+
 // The last offset, counted from the base offset, and the times that the records' own are counted from and end at.
 pub struct Times {
     pub last_offset_delta: i32,

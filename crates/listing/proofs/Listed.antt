@@ -13,7 +13,7 @@ use Rattle.opening.specs.Judgement.{judge}
 use Rattle.batches.specs.Answers.{Rooms, roomsOf, tablesOf}
 use Rattle.listing.specs.declared.Next.{Next}
 use Rattle.listing.specs.declared.Entry.{Entry}
-use Rattle.listing.specs.Listing.{Turn, line, last, most, firstTurn, turnAt, andOn, linesFrom, listing}
+use Rattle.listing.specs.Listing.{Turn, line, last, most, listedMode, firstTurn, turnAt, andOn, linesFrom, listing}
 use Rattle.listing.specs.Answers.{inLine, entryOf}
 use Rattle.listing.specs.Promises.{ListOutcome}
 use Rattle.listing.specs.Statements.{shownLine, textOf, Follow, done, goes-on, Listed, Follows, ProgramRooms, InUse, FirstInUse, AtInUse, Forward, TurnsEnough}
@@ -104,7 +104,7 @@ follows-turn s t (suc k) (last text) n = ([], done refl)
 follows-turn s t (suc k) (line text next) n =
     let turn : Turn = turnAt (roomsOf t) s next in
     let (rest, f) = follows-turn s t k turn (enough-after (roomsOf t) s k next (n .1) turn refl) in
-    let o : ListOutcome = record { result = entryOf turn; tables = tablesOf (judge (drop next s)) t } in
+    let o : ListOutcome = record { result = entryOf turn; tables = tablesOf (judge listedMode (drop next s)) t } in
     (entryOf turn ∷ rest, goes-on {place = next} {t = t} {o = o} refl refl (record { result = refl; tables = refl }) f)
 
 pub follows : Follows

@@ -12,13 +12,13 @@ use borrow.Rule.Slice.PartAt.{part-to-end}
 use lib.ListN.{length, take, drop, length-drop, drop-of-length-le}
 use Rattle.records.specs.Rows.{Tables}
 use Rattle.layout.specs.Batch.{Fields}
-use Rattle.opening.specs.Judgement.{more, refused, accepted, Accepted, Judgement, totalAt, judgeWith, bareMarkerAt, judge}
+use Rattle.opening.specs.Judgement.{more, refused, accepted, Accepted, Judgement, totalAt, judgeWith, wayOf, judge}
 use Rattle.batches.specs.declared.BatchRead.{BatchRead}
 use Rattle.batches.specs.Answers.{Answer, Kind, viewRead, Rooms, roomsOf, hasRoom, answerOf, tablesOf}
 use Rattle.batches.specs.Promises.{ReadOutcome, ReadPromise}
 use Rattle.batches.proofs.Passed.{passed}
 use Rattle.listing.specs.declared.Entry.{Entry}
-use Rattle.listing.specs.Listing.{heading, tooLong, batchLine, endLine, stopLine, Turn, line, last, most, firstTurn, judgedTurn, turnAt}
+use Rattle.listing.specs.Listing.{heading, tooLong, batchLine, endLine, stopLine, Turn, line, last, most, listedMode, firstTurn, judgedTurn, turnAt}
 use Rattle.listing.specs.Answers.{entryOf}
 use Rattle.listing.specs.Writing.{readTurn, NextFits}
 use Rattle.listing.specs.Promises.{ListAtPromise}
@@ -37,7 +37,7 @@ pub turn-end : (rooms : Rooms) (s : List ℕ) (place : ℕ) → length s ≤ pla
 unfolding turnAt
 turn-end rooms s place h = rw (le-leb (length s) place h)
 
-turn-judged : (rooms : Rooms) (s : List ℕ) (place : ℕ) → place < length s → turnAt rooms s place ≡ judgedTurn rooms place (judge (drop place s))
+turn-judged : (rooms : Rooms) (s : List ℕ) (place : ℕ) → place < length s → turnAt rooms s place ≡ judgedTurn rooms place (judge listedMode (drop place s))
 unfolding turnAt
 turn-judged rooms s place h = rw (lt-leb (length s) place h)
 
@@ -69,12 +69,12 @@ module _ (rooms : Rooms) (place : ℕ) where
   judged-answered (refused n) = refl
   judged-answered (accepted b) = roomy-answered b _ refl
 
-turn-read : (s : List ℕ) (place : ℕ) (t : Tables) (o : ReadOutcome) → place < length s → ReadPromise (drop place s) t o
+turn-read : (s : List ℕ) (place : ℕ) (t : Tables) (o : ReadOutcome) → place < length s → ReadPromise listedMode (drop place s) t o
     → readTurn place (o .result) ≡ turnAt (roomsOf t) s place
 turn-read s place t o h e =
     read-answered place (o .result)
     ∙ ap (answered place) (e .by .answer)
-    ∙ sym (judged-answered (roomsOf t) place (judge (drop place s)))
+    ∙ sym (judged-answered (roomsOf t) place (judge listedMode (drop place s)))
     ∙ sym (turn-judged (roomsOf t) s place h)
 
 -- ---- where it goes on
@@ -83,9 +83,9 @@ last-not-line : {X : Type 0} {text text′ : List ℕ} {next : ℕ} → last tex
 last-not-line e = let z : _≡_ {A = ℕ} 0 1 = cc in absurd (omega arith)
 
 -- what is accepted has bytes, and they are there
-consumed-within : (s : List ℕ) (b : Accepted) → judge s ≡ accepted b → (0 < b .consumed) × (b .consumed ≤ length s)
+consumed-within : (s : List ℕ) (b : Accepted) → judge listedMode s ≡ accepted b → (0 < b .consumed) × (b .consumed ≤ length s)
 consumed-within s b j =
-    let p = passed bareMarkerAt s 0 0 b j in
+    let p = passed (wayOf listedMode) s 0 0 b j in
     let e : b .consumed ≡ 12 + p .size = ap (λ (x : Accepted). x .consumed) (p .is) in
     (omega arith, omega (arith, p .all-there))
 
@@ -105,7 +105,7 @@ turn-forward rooms s place text next e =
     elim (decLe (length s) place) [
       | yes h ↦ last-not-line (sym (turn-end rooms s place h) ∙ e)
       | no g ↦
-          let (b, j, w) = judged-forward rooms place text next (judge (drop place s)) (sym (turn-judged rooms s place (omega arith)) ∙ e) in
+          let (b, j, w) = judged-forward rooms place text next (judge listedMode (drop place s)) (sym (turn-judged rooms s place (omega arith)) ∙ e) in
           let (any, within) = consumed-within (drop place s) b j in
           (omega arith, omega (arith, length-drop place s))
     ]
@@ -119,9 +119,9 @@ read-fits rooms s place h (BatchRead.NoRoom n m) e = tt
 -- ---- what was read at a place, from the file's bytes from there to their end
 
 module _ (s : List ℕ) (place : ℕ) (t t′ : Tables) (r : BatchRead) (h : place < length s)
-    (e : ReadPromise (take (length s - place) (drop place s)) t (record { result = r; tables = t′ })) where
-  reads : ReadPromise (drop place s) t (record { result = r; tables = t′ })
-  reads = subst (λ (x : List ℕ). ReadPromise x t (record { result = r; tables = t′ })) (part-to-end s place) e
+    (e : ReadPromise listedMode (take (length s - place) (drop place s)) t (record { result = r; tables = t′ })) where
+  reads : ReadPromise listedMode (drop place s) t (record { result = r; tables = t′ })
+  reads = subst (λ (x : List ℕ). ReadPromise listedMode x t (record { result = r; tables = t′ })) (part-to-end s place) e
 
   pub next-fits : length s < 2 ^ 64 → NextFits place r
   next-fits l = read-fits (roomsOf t) s place l r (turn-read s place t _ h reads)
@@ -131,9 +131,9 @@ module _ (s : List ℕ) (place : ℕ) (t t′ : Tables) (r : BatchRead) (h : pla
 
 -- ---- past the end nothing is read
 
-judge-none : judge [] ≡ more 12
+judge-none : judge listedMode [] ≡ more 12
 unfolding judgeWith totalAt
 judge-none = refl
 
-pub none-read : (s : List ℕ) (place : ℕ) (t : Tables) → length s ≤ place → t ≡ tablesOf (judge (drop place s)) t
-none-read s place t h = sym (ap (λ (x : List ℕ). tablesOf (judge x) t) (drop-of-length-le s {i = place} h) ∙ ap (λ (j : Judgement). tablesOf j t) judge-none)
+pub none-read : (s : List ℕ) (place : ℕ) (t : Tables) → length s ≤ place → t ≡ tablesOf (judge listedMode (drop place s)) t
+none-read s place t h = sym (ap (λ (x : List ℕ). tablesOf (judge listedMode x) t) (drop-of-length-le s {i = place} h) ∙ ap (λ (j : Judgement). tablesOf j t) judge-none)

@@ -6,6 +6,7 @@ use lib.IntN.{ℤ}
 use lib.ListN.{length, drop}
 use Rattle.numbers.specs.Pick.{pick}
 use Rattle.layout.specs.Batch.{abort, commit}
+use Rattle.layout.specs.declared.ControlMode.{ControlMode}
 use Rattle.opening.specs.Judgement.{Judgement, more, refused, accepted, judge}
 use Rattle.batches.specs.Answers.{Kind, ofRecords, ofMarker, kindOf, recordsIn, headersOf, Rooms, hasRoom}
 use Rattle.listing.specs.Text.{ascii, spaced, ended, decimal, signedDecimal}
@@ -51,6 +52,10 @@ most = 65536
 abbrev pub programRooms : Rooms
 programRooms = record { records = 1024; headers = 2048 }
 
+-- document 01's listing: a control batch's marker stands alone
+abbrev pub listedMode : ControlMode
+listedMode = ControlMode.Bare
+
 abbrev pub firstTurn : List ℕ → Turn
 firstTurn s = pick (ltb most (length s)) (last tooLong) (line heading 0)
 
@@ -65,7 +70,7 @@ judgedTurn rooms place (accepted b) =
 
 -- what is lent to the reader is the file from the place on
 unfoldable pub turnAt : Rooms → List ℕ → ℕ → Turn
-turnAt rooms s place = pick (leb (length s) place) (last (endLine (length s))) (judgedTurn rooms place (judge (drop place s)))
+turnAt rooms s place = pick (leb (length s) place) (last (endLine (length s))) (judgedTurn rooms place (judge listedMode (drop place s)))
 
 -- a turn's line, and the rest where it is not the last
 abbrev pub andOn : Turn → (ℕ → List ℕ) → List ℕ

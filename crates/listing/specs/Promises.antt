@@ -8,7 +8,7 @@ use Rattle.records.specs.Rows.{Tables}
 use Rattle.opening.specs.Judgement.{judge}
 use Rattle.batches.specs.Answers.{roomsOf, tablesOf}
 use Rattle.listing.specs.declared.Entry.{Entry}
-use Rattle.listing.specs.Listing.{firstTurn, turnAt}
+use Rattle.listing.specs.Listing.{listedMode, firstTurn, turnAt}
 use Rattle.listing.specs.Answers.{entryOf}
 
 -- list_first, on the bytes s of a file
@@ -23,4 +23,4 @@ pub record ListOutcome : Type 0 where
 -- list_at, on the bytes s of a file, a place and tables t: the tables hold what reading at the place leaves in them
 pub record ListAtPromise (s : List ℕ) (place : ℕ) (t : Tables) (o : ListOutcome) : Type 0 where
   pub result : o .result ≡ entryOf (turnAt (roomsOf t) s place)
-  pub tables : o .tables ≡ tablesOf (judge (drop place s)) t
+  pub tables : o .tables ≡ tablesOf (judge listedMode (drop place s)) t

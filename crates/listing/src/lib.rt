@@ -2,6 +2,7 @@
 use batches::BatchRead;
 use batches::ControlBatchOrRecords;
 use batches::RecordBatch;
+use layout::ControlMode;
 use markers::ControlBatchRecord;
 ghost use mathlib.Core.Path.{_≡_};
 ghost use mathlib.Core.List.{[], _∷_, _++_};
@@ -59,7 +60,7 @@ pub fn list_at(bytes: &[u8], place: usize, records: &mut [i64], headers: &mut [i
     if bytes.len() <= place {
         return last(end_line(bytes.len()));
     }
-    let read = RecordBatch::read(&bytes[place..], records, headers);
+    let read = RecordBatch::read(ControlMode::Bare, &bytes[place..], records, headers);
     entry_of(read, place)
 }
 

@@ -1,29 +1,35 @@
 -- What the reading of a marker returns: by the version, the type and whether anything follows. The premises have the
 -- form in which a proof finds them. Assumes nothing.
 use Prim.Native.Nat.{ℕ, _≤_, _<_}
-use mathlib.Core.Path.{_≡_, sym, ap, _∙_}
+use mathlib.Core.Path.{_≡_, refl, sym, ap, _∙_, subst}
 use mathlib.Core.Bool.{true, false}
 use mathlib.Core.List.{List}
 use native.Mathlib.Omega.{arith}
 use borrow.Author.Tests.{lt-ltb, le-ltb}
 use lib.IntN.{ℤ}
-use lib.ListN.{length}
-use mir.Syntax.{w16}
-use mir.Val.{SFits, ofZ}
+use lib.ListN.{length, getD}
+use mir.Syntax.{w8, w16}
+use mir.Val.{Fits, SFits, ofZ}
 use Rattle.numbers.specs.declared.Int16.{Int16}
 use Rattle.primitives.specs.declared.Cursor.{Cursor}
 use Rattle.primitives.specs.declared.Fault.{Fault}
 use Rattle.primitives.specs.declared.Int16Read.{Int16Read}
 use Rattle.primitives.specs.Step.{Step, ok, no, andThen}
+use Rattle.primitives.specs.Stands.{Encoding}
+use Rattle.primitives.proofs.Steps.{ok-not-no}
 use Rattle.primitives.specs.Reading.{integerAt}
 use Rattle.primitives.specs.Answers.{numberOf, viewInt16}
+use Rattle.layout.specs.declared.ControlMode.{ControlMode}
 use Rattle.layout.specs.Batch.{Marker, abort, commit}
+use Rattle.layout.specs.Format.{grammarOf}
 use Rattle.opening.specs.declared.BatchFault.{BatchFault}
-use Rattle.opening.specs.Judgement.{markerOf, endedAt, bareMarkerAt}
+use Rattle.opening.specs.Judgement.{markerOf, endedAt, bareMarkerAt, wayOf}
 use Rattle.opening.proofs.SignedTests.{bits-number, bits-other}
 use Rattle.markers.specs.declared.ControlBatchRecord.{ControlBatchRecord}
 use Rattle.markers.specs.declared.ControlBatchRecordRead.{ControlBatchRecordRead}
-use Rattle.markers.specs.Markers.{viewMarkerRead, isOk}
+use Rattle.markers.specs.Markers.{viewMarker, viewMarkerRead}
+use Rattle.markers.specs.Promises.{StandsPromise}
+use Rattle.markers.proofs.Bare.{bare-lawful}
 
 -- ---- what follows
 
@@ -37,43 +43,50 @@ module _ (s : List ℕ) (m : Marker) (p : ℕ) where
 -- ---- version and type
 
 module _ (s : List ℕ) (at : ℕ) (a : Int16Read) (e : viewInt16 a ≡ integerAt 2 s at) where
-  pub no-version : (f : Fault) → a ≡ Int16Read.Refused f → no (numberOf f) ≡ bareMarkerAt s at
-  unfolding bareMarkerAt
+  pub no-version : (f : Fault) → a ≡ Int16Read.Refused f → no (numberOf f) ≡ wayOf ControlMode.Bare s at
+  unfolding wayOf bareMarkerAt
   no-version f g = rw (sym e ∙ ap viewInt16 g)
 
   module _ (x : Int16) (c : Cursor) (f : a ≡ Int16Read.Got x c) where
-    pub unknown-version : (ofZ w16 (x .0) ≡ 0 → ⊥) → no 12 ≡ bareMarkerAt s at
-    unfolding bareMarkerAt
+    pub unknown-version : (ofZ w16 (x .0) ≡ 0 → ⊥) → no 12 ≡ wayOf ControlMode.Bare s at
+    unfolding wayOf bareMarkerAt
     unknown-version h = rw (sym e ∙ ap viewInt16 f, bits-other w16 0 (x .0) h)
 
     module _ (h : ofZ w16 (x .0) ≡ 0) (fits : SFits w16 (x .0)) (b : Int16Read) (e′ : viewInt16 b ≡ integerAt 2 s (c .at)) where
-      typed : andThen (andThen (integerAt 2 s (c .at)) markerOf) (endedAt s) ≡ bareMarkerAt s at
-      unfolding bareMarkerAt
+      typed : andThen (andThen (integerAt 2 s (c .at)) markerOf) (endedAt s) ≡ wayOf ControlMode.Bare s at
+      unfolding wayOf bareMarkerAt
       typed = rw (sym e ∙ ap viewInt16 f, bits-number w16 0 (x .0) (omega arith) fits h)
 
-      pub no-type : (g : Fault) → b ≡ Int16Read.Refused g → no (numberOf g) ≡ bareMarkerAt s at
+      pub no-type : (g : Fault) → b ≡ Int16Read.Refused g → no (numberOf g) ≡ wayOf ControlMode.Bare s at
       no-type g i = ap (λ (z : Step ℕ ℤ). andThen (andThen z markerOf) (endedAt s)) (sym (ap viewInt16 i) ∙ e′) ∙ typed
 
       module _ (y : Int16) (next : Cursor) (f′ : b ≡ Int16Read.Got y next) where
-        of-type : andThen (markerOf (y .0) (next .at)) (endedAt s) ≡ bareMarkerAt s at
+        of-type : andThen (markerOf (y .0) (next .at)) (endedAt s) ≡ wayOf ControlMode.Bare s at
         of-type = ap (λ (z : Step ℕ ℤ). andThen (andThen z markerOf) (endedAt s)) (sym (ap viewInt16 f′) ∙ e′) ∙ typed
 
-        pub aborts : (r : Step ℕ Marker) → ofZ w16 (y .0) ≡ 0 → SFits w16 (y .0) → r ≡ endedAt s abort (next .at) → r ≡ bareMarkerAt s at
+        pub aborts : (r : Step ℕ Marker) → ofZ w16 (y .0) ≡ 0 → SFits w16 (y .0) → r ≡ endedAt s abort (next .at) → r ≡ wayOf ControlMode.Bare s at
         aborts r i fits′ g =
             g ∙ ap (λ (z : ℤ). andThen (markerOf z (next .at)) (endedAt s)) (sym (bits-number w16 0 (y .0) (omega arith) fits′ i)) ∙ of-type
 
-        pub commits : (r : Step ℕ Marker) → ofZ w16 (y .0) ≡ 1 → SFits w16 (y .0) → r ≡ endedAt s commit (next .at) → r ≡ bareMarkerAt s at
+        pub commits : (r : Step ℕ Marker) → ofZ w16 (y .0) ≡ 1 → SFits w16 (y .0) → r ≡ endedAt s commit (next .at) → r ≡ wayOf ControlMode.Bare s at
         commits r i fits′ g =
             g ∙ ap (λ (z : ℤ). andThen (markerOf z (next .at)) (endedAt s)) (sym (bits-number w16 1 (y .0) (omega arith) fits′ i)) ∙ of-type
 
-        pub unknown-type : (ofZ w16 (y .0) ≡ 0 → ⊥) → (ofZ w16 (y .0) ≡ 1 → ⊥) → no 12 ≡ bareMarkerAt s at
+        pub unknown-type : (ofZ w16 (y .0) ≡ 0 → ⊥) → (ofZ w16 (y .0) ≡ 1 → ⊥) → no 12 ≡ wayOf ControlMode.Bare s at
         unknown-type i j = rw (bits-other w16 0 (y .0) i, bits-other w16 1 (y .0) j) at of-type
 
 -- ---- whether a marker stands there
 
-module _ (s : List ℕ) (at : ℕ) (r : ControlBatchRecordRead) (e : viewMarkerRead r ≡ bareMarkerAt s at) where
-  pub marker-there : (m : ControlBatchRecord) (c : Cursor) → r ≡ ControlBatchRecordRead.Got m c → true ≡ isOk (bareMarkerAt s at)
-  marker-there m c f = ap isOk (sym (ap viewMarkerRead f) ∙ e)
+module _ (s : List ℕ) (fits : (i : ℕ) → Fits w8 (getD s i 0)) (at : ℕ) (r : ControlBatchRecordRead) (e : viewMarkerRead r ≡ wayOf ControlMode.Bare s at) where
+  pub marker-there : (m : ControlBatchRecord) (c : Cursor) → r ≡ ControlBatchRecordRead.Got m c → StandsPromise ControlMode.Bare s at true
+  unfolding grammarOf
+  marker-there m c f =
+      let (x, end) = bare-lawful .sound s at (c .at) (viewMarker m) (λ i. fits i .fits) (sym e ∙ ap viewMarkerRead f) in
+      let y = subst (λ (q : ℕ). Encoding (grammarOf ControlMode.Bare false) s at q (viewMarker m)) end x in
+      (λ _. (viewMarker m, record { bytes = y .bytes; stands = y .stands; encodes = y .encodes }), λ _. refl)
 
-  pub marker-missing : (f : BatchFault) → r ≡ ControlBatchRecordRead.Refused f → false ≡ isOk (bareMarkerAt s at)
-  marker-missing f g = ap isOk (sym (ap viewMarkerRead g) ∙ e)
+  pub marker-missing : (f : BatchFault) → r ≡ ControlBatchRecordRead.Refused f → StandsPromise ControlMode.Bare s at false
+  marker-missing f g = (
+    λ i. absurd (let z : _≡_ {A = ℕ} 0 1 = cc in omega arith),
+    λ (m, x). ok-not-no (sym (bare-lawful .complete true s at (x .bytes) m (x .stands) (x .encodes)) ∙ sym e ∙ ap viewMarkerRead g),
+  )

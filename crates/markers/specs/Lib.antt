@@ -1,3 +1,4 @@
 pub mod Markers
+pub mod Forms
 pub mod Promises
 pub mod Statements

@@ -1,6 +1,5 @@
 -- What a marker is written as, and what the answers say.
 use Prim.Native.Nat.{ℕ}
-use mathlib.Core.Bool.{Bool, true, false}
 use mathlib.Core.List.{List, _++_}
 use Rattle.numbers.specs.Format.{bigEndian}
 use Rattle.primitives.specs.Step.{Step, ok, no}
@@ -10,8 +9,7 @@ use Rattle.opening.specs.Answers.{batchNumberOf}
 use Rattle.markers.specs.declared.ControlBatchRecord.{ControlBatchRecord}
 use Rattle.markers.specs.declared.ControlBatchRecordRead.{ControlBatchRecordRead}
 
--- Kafka, message format, control batch: version 0, then the type.
--- Exception, as in the Rust: they stand alone, and not in the key of a record.
+-- Kafka, message format, control batch: version 0, then the type
 unfoldable pub writtenMarker : Marker → List ℕ
 writtenMarker m = bigEndian 2 0 ++ bigEndian 2 (markerType m)
 
@@ -22,7 +20,3 @@ viewMarker ControlBatchRecord.Commit = commit
 abbrev pub viewMarkerRead : ControlBatchRecordRead → Step ℕ Marker
 viewMarkerRead (ControlBatchRecordRead.Got m c) = ok (viewMarker m) (c .at)
 viewMarkerRead (ControlBatchRecordRead.Refused f) = no (batchNumberOf f)
-
-abbrev pub isOk : {A : Type 0} → Step ℕ A → Bool
-isOk (ok a p) = true
-isOk (no n) = false

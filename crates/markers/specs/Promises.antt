@@ -2,22 +2,33 @@
 -- no function here can change them.
 use Prim.Native.Nat.{ℕ}
 use mathlib.Core.Path.{_≡_}
-use mathlib.Core.Bool.{Bool}
+use mathlib.Core.Bool.{Bool, true}
 use mathlib.Core.List.{List}
+use lib.ListN.{length}
+use Rattle.numbers.specs.Exactly.{Exactly}
 use Rattle.numbers.specs.Promises.{PutOutcome, PutPromise}
-use Rattle.opening.specs.Judgement.{bareMarkerAt}
+use Rattle.primitives.specs.Stands.{Encoding}
+use Rattle.layout.specs.declared.ControlMode.{ControlMode}
+use Rattle.layout.specs.Batch.{Marker}
+use Rattle.layout.specs.Format.{grammarOf}
+use Rattle.opening.specs.Judgement.{wayOf}
 use Rattle.markers.specs.declared.ControlBatchRecord.{ControlBatchRecord}
 use Rattle.markers.specs.declared.ControlBatchRecordRead.{ControlBatchRecordRead}
-use Rattle.markers.specs.Markers.{writtenMarker, viewMarker, viewMarkerRead, isOk}
+use Rattle.markers.specs.Markers.{viewMarker, viewMarkerRead}
+use Rattle.markers.specs.Forms.{writesOf}
 
 -- ControlBatchRecord::read, on bytes s and a cursor at a place: the marker, with nothing after it, or a number
-abbrev pub ReadMarkerPromise : List ℕ → ℕ → ControlBatchRecordRead → Type 0
-ReadMarkerPromise s at r = viewMarkerRead r ≡ bareMarkerAt s at
+abbrev pub ReadMarkerPromise : ControlMode → List ℕ → ℕ → ControlBatchRecordRead → Type 0
+ReadMarkerPromise mode s at r = viewMarkerRead r ≡ wayOf mode s at
 
--- ControlBatchRecord::stands, the same as yes or no
-abbrev pub StandsPromise : List ℕ → ℕ → Bool → Type 0
-StandsPromise s at r = r ≡ isOk (bareMarkerAt s at)
+-- by the strict grammar a marker stands from a place up to the end of the bytes
+abbrev pub StandsAlone : ControlMode → List ℕ → ℕ → Type 0
+StandsAlone mode s at = (m : Marker) × Encoding (grammarOf mode true) s at (length s) m
+
+-- ControlBatchRecord::stands
+abbrev pub StandsPromise : ControlMode → List ℕ → ℕ → Bool → Type 0
+StandsPromise mode s at r = Exactly (r ≡ true) (StandsAlone mode s at)
 
 -- ControlBatchRecord::put, into an output from a place on
-abbrev pub PutMarkerPromise : ControlBatchRecord → List ℕ → ℕ → PutOutcome → Type 0
-PutMarkerPromise m out at o = PutPromise (writtenMarker (viewMarker m)) out at o
+abbrev pub PutMarkerPromise : ControlMode → ControlBatchRecord → List ℕ → ℕ → PutOutcome → Type 0
+PutMarkerPromise mode m out at o = PutPromise (writesOf mode (viewMarker m)) out at o

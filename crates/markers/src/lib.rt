@@ -1,12 +1,26 @@
 // The marker of a control batch, read and written. Names follow src/protocol/record.rs of rskafka 0.6.0.
+use layout::ControlMode;
 use numbers::put;
 use opening::BatchFault;
 use primitives::Cursor;
 use primitives::Int16Read;
+use primitives::Span;
+use primitives::SpanRead;
+use reading::RecordsCheck;
+use reading::check_records;
+use records::Record;
 use records::RecordFault;
+ghost use Prim.Native.Nat.{_+_, _≤_};
 ghost use mathlib.Core.Path.{_≡_};
-ghost use Rattle.opening.specs.Judgement.{endedAt};
-ghost use Rattle.markers.specs.Markers.{writtenMarker, viewMarker, viewMarkerRead};
+ghost use mathlib.Core.Bool.{true};
+ghost use mathlib.Core.Option.{some};
+ghost use Rattle.numbers.specs.Exactly.{Exactly};
+ghost use Rattle.primitives.specs.Stands.{Stands};
+ghost use lib.ListN.{length};
+ghost use Rattle.opening.specs.Judgement.{endedAt, markerInKey};
+ghost use Rattle.markers.specs.Markers.{viewMarker, viewMarkerRead};
+ghost use Rattle.markers.specs.Forms.{writesOf};
+ghost use Rattle.layout.specs.declared.ControlMode.{ControlMode};
 ghost use Rattle.markers.specs.Promises.{ReadMarkerPromise, StandsPromise, PutMarkerPromise};
 
 // The marker that ends a transaction.
@@ -28,9 +42,19 @@ impl ControlBatchRecord {
 
     const COMMIT: i16 = 1;
 
+    // Nothing follows it in `s`.
+    pub fn read(mode: ControlMode, s: &[u8], c: Cursor) -> ControlBatchRecordRead
+        ensures { λ r. ⌜ ReadMarkerPromise mode (now (s .entry)) (c .at) r ⌝ }
+    {
+        match mode {
+            ControlMode::Bare => ControlBatchRecord::read_bare(s, c),
+            ControlMode::Keyed => ControlBatchRecord::read_keyed(s, c),
+        }
+    }
+
     // The version is judged before the type is looked at.
-    pub fn read(s: &[u8], c: Cursor) -> ControlBatchRecordRead
-        ensures { λ r. ⌜ ReadMarkerPromise (now (s .entry)) (c .at) r ⌝ }
+    fn read_bare(s: &[u8], c: Cursor) -> ControlBatchRecordRead
+        ensures { λ r. ⌜ ReadMarkerPromise ControlMode.Bare (now (s .entry)) (c .at) r ⌝ }
     {
         match c.read_int16(s) {
             Int16Read::Got(version, at_type) => {
@@ -58,31 +82,110 @@ impl ControlBatchRecord {
         }
     }
 
-    // Whether a marker stands at the cursor and ends where `s` ends.
-    pub fn stands(s: &[u8], c: Cursor) -> bool
-        ensures { λ r. ⌜ StandsPromise (now (s .entry)) (c .at) r ⌝ }
+    // The record is judged first, up to the end of `s`, and then its key.
+    fn read_keyed(s: &[u8], c: Cursor) -> ControlBatchRecordRead
+        ensures { λ r. ⌜ ReadMarkerPromise ControlMode.Keyed (now (s .entry)) (c .at) r ⌝ }
     {
-        match ControlBatchRecord::read(s, c) {
+        match check_records(s, c.at, 1) {
+            RecordsCheck::Accepted {
+                records: _,
+                headers: _,
+                end,
+            } => match Record::find_key(c, s) {
+                SpanRead::Span(key, _) => ControlBatchRecord::in_key(s, key, end),
+                SpanRead::Null(_) => ControlBatchRecordRead::Refused(BatchFault::UnknownControl),
+                SpanRead::Refused(f) =>
+                    ControlBatchRecordRead::Refused(BatchFault::Body(RecordFault::Field(f))),
+            },
+            RecordsCheck::Refused(f) => ControlBatchRecordRead::Refused(BatchFault::Body(f)),
+        }
+    }
+
+    // The first four bytes of a key, of a record that ends at `end`.
+    fn in_key(s: &[u8], key: Span, end: usize) -> ControlBatchRecordRead
+        requires { ⌜ key .start + key .len ≤ length (now s) ⌝ }
+        ensures { λ r. ⌜ viewMarkerRead r ≡ markerInKey (now (s .entry)) (some (record { start = key .start; len = key .len })) end ⌝ }
+    {
+        let len = key.len;
+        if len < 4 {
+            return ControlBatchRecordRead::Refused(BatchFault::UnknownControl);
+        }
+        let start = key.start;
+        let past = start + 4;
+        match ControlBatchRecord::read_bare(&s[..past], Cursor { at: start }) {
+            ControlBatchRecordRead::Got(marker, _) => ControlBatchRecordRead::Got(
+                marker,
+                Cursor { at: end },
+            ),
+            ControlBatchRecordRead::Refused(f) => ControlBatchRecordRead::Refused(f),
+        }
+    }
+
+    // Whether a marker, as it is written, stands at the cursor and ends where `s` ends.
+    pub fn stands(mode: ControlMode, s: &[u8], c: Cursor) -> bool
+        ensures { λ r. ⌜ StandsPromise mode (now (s .entry)) (c .at) r ⌝ }
+    {
+        match mode {
+            ControlMode::Bare => ControlBatchRecord::bare_stands(s, c),
+            ControlMode::Keyed => ControlBatchRecord::record_stands(s, c.at),
+        }
+    }
+
+    fn bare_stands(s: &[u8], c: Cursor) -> bool
+        ensures { λ r. ⌜ StandsPromise ControlMode.Bare (now (s .entry)) (c .at) r ⌝ }
+    {
+        match ControlBatchRecord::read_bare(s, c) {
             ControlBatchRecordRead::Got(_, _) => true,
             ControlBatchRecordRead::Refused(_) => false,
         }
     }
 
-    // Writes it from `at` on, as far as the output goes, and gives the place after it.
-    pub fn put(self, output: &mut [u8], at: usize) -> usize
-        ensures { λ r. ⌜ PutMarkerPromise self (now (output .entry)) at (record { next = r; output = now (output .exit) }) ⌝ }
+    fn record_stands(s: &[u8], at: usize) -> bool
+        ensures { λ r. ⌜ StandsPromise ControlMode.Keyed (now (s .entry)) at r ⌝ }
     {
-        let bytes = self.bytes();
-        put(&bytes, output, at)
+        let abort = ControlBatchRecord::Abort;
+        let abort = abort.record_bytes();
+        if stand(&abort, s, at) {
+            return true;
+        }
+        let commit = ControlBatchRecord::Commit;
+        let commit = commit.record_bytes();
+        stand(&commit, s, at)
+    }
+
+    // Writes it from `at` on, as far as the output goes, and gives the place after it.
+    pub fn put(self, mode: ControlMode, output: &mut [u8], at: usize) -> usize
+        ensures { λ r. ⌜ PutMarkerPromise mode self (now (output .entry)) at (record { next = r; output = now (output .exit) }) ⌝ }
+    {
+        match mode {
+            ControlMode::Bare => {
+                let bytes = self.bytes();
+                put(&bytes, output, at)
+            }
+            ControlMode::Keyed => {
+                let bytes = self.record_bytes();
+                put(&bytes, output, at)
+            }
+        }
     }
 
     // Version and type, each of two bytes, the highest first.
     fn bytes(self) -> [u8; 4]
-        ensures { λ r. ⌜ r ≡ writtenMarker (viewMarker self) ⌝ }
+        ensures { λ r. ⌜ r ≡ writesOf ControlMode.Bare (viewMarker self) ⌝ }
     {
         match self {
             ControlBatchRecord::Abort => [0, 0, 0, 0],
             ControlBatchRecord::Commit => [0, 0, 0, 1],
+        }
+    }
+
+    // A record whose key they are, with zero deltas, no value and no headers.
+    fn record_bytes(self) -> [u8; 11]
+        ensures { λ r. ⌜ r ≡ writesOf ControlMode.Keyed (viewMarker self) ⌝ }
+    {
+        match self {
+            ControlBatchRecord::Abort => [20, 0, 0, 0, 8, 0, 0, 0, 0, 1, 0],
+            ControlBatchRecord::Commit => [20, 0, 0, 0, 8, 0, 0, 0, 1, 1, 0],
         }
     }
 }
@@ -95,4 +198,24 @@ fn ended(s: &[u8], marker: ControlBatchRecord, c: Cursor) -> ControlBatchRecordR
         return ControlBatchRecordRead::Refused(BatchFault::Body(RecordFault::BytesLeft));
     }
     ControlBatchRecordRead::Got(marker, c)
+}
+
+// Whether these bytes stand from `at` on, and nothing after them.
+fn stand(bytes: &[u8], s: &[u8], at: usize) -> bool
+    ensures { λ r. ⌜ Exactly (r ≡ true) (Stands (now (s .entry)) at (length (now (s .entry))) (now (bytes .entry))) ⌝ }
+{
+    if s.len() < at {
+        return false;
+    }
+    if s.len() - at != bytes.len() {
+        return false;
+    }
+    let mut i = 0;
+    while i < bytes.len() {
+        if s[at + i] != bytes[i] {
+            return false;
+        }
+        i += 1;
+    }
+    true
 }

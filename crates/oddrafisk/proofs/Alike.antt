@@ -4,6 +4,7 @@ use mathlib.Core.Path.{_≡_, refl, sym, ap, _∙_, subst}
 use mathlib.Core.Bool.{Bool, true, false, false≢true}
 use mathlib.Core.Option.{some}
 use mathlib.Core.List.{List}
+use native.Mathlib.Omega.{arith}
 use native.Mathlib.Decide.{ℕ-discrete}
 use borrow.Author.Tests.{ne-eqb}
 use lib.IntN.{ℤ, pos}
@@ -11,41 +12,58 @@ use Rattle.numbers.proofs.InBits.{test-in}
 use Rattle.records.specs.Rows.{Tables}
 use Rattle.writing.specs.Answers as Writing
 use Rattle.writing.specs.Answers.{measured, answerDue, outputDue}
+use Rattle.layout.specs.declared.ControlMode.{ControlMode}
 use Rattle.layout.specs.Batch.{TimestampType, createTime, logAppendTime, abort, commit}
 use Rattle.layout.specs.Time.{recordTime}
 use Rattle.batches.specs.declared.RecordBatch.{RecordBatch}
 use Rattle.batches.specs.declared.ControlBatchOrRecords.{ControlBatchOrRecords}
 use Rattle.batches.specs.Answers.{Kind, ofRecords, ofMarker, Answer, viewFields}
 use Rattle.batches.specs.Writer.{viewWanted, batchGiven}
-use Rattle.oddrafisk.specs.Entries.{typeEntry, flagEntry, kindEntry, is0or1, typeOf, flagOf, kindWanted, entriesAsked}
+use Rattle.oddrafisk.specs.Entries.{modeOf, typeEntry, flagEntry, kindEntry, is0or1, typeOf, flagOf, kindWanted, entriesAsked}
 use Rattle.oddrafisk.specs.Promises.{Says, entriesGiven, Sizes, timed, timeFor}
-use Rattle.oddrafisk.specs.Statements.{ChecksAlike, ReadsAlike, Taken, MeasuresAlike, WritesAlike, CanonicalAlike, TimesAlike, askedKind, EntriesTaken}
+use Rattle.oddrafisk.specs.Statements.{ModeNumbers, ChecksAlike, ReadsAlike, Taken, MeasuresAlike, WritesAlike, CanonicalAlike, TimesAlike, askedKind, EntriesTaken}
+use Rattle.oddrafisk.proofs.Tests.{mode-keyed, mode-bare}
 
 pub checks-alike : ChecksAlike
-checks-alike s r o e p = subst (λ (a : Answer). Says a o) (sym (e .answer)) (p .said)
+checks-alike mode s r o e p = subst (λ (a : Answer). Says a o) (sym (e .answer)) (p .said)
 
 pub reads-alike : ReadsAlike
-reads-alike s t o o′ e p = (subst (λ (a : Answer). Says a (o′ .said)) (sym (e .by .answer)) (p .said), p .tables ∙ sym (e .by .tables))
+reads-alike mode s t o o′ e p = (subst (λ (a : Answer). Says a (o′ .said)) (sym (e .by .answer)) (p .said), p .tables ∙ sym (e .by .tables))
+
+-- ---- the mode
+
+bare-not-keyed : ControlMode.Bare ≡ ControlMode.Keyed → ⊥
+bare-not-keyed e = let z : _≡_ {A = ℕ} 0 1 = cc in absurd (omega arith)
+
+pub mode-numbers : ModeNumbers
+mode-numbers n = (told, λ e. sym (mode-keyed n e))
+  where
+    told : modeOf n ≡ ControlMode.Keyed → n ≡ 1
+    told e =
+        elim (ℕ-discrete n 1) [
+          | yes h ↦ h
+          | no h ↦ absurd (bare-not-keyed (mode-bare n h ∙ e))
+        ]
 
 -- ---- the writer
 
 -- what is given for entries that are taken is what is given for the batch
-given-alike : (e : List ℤ) (b : RecordBatch) (codec : ℕ) (kind : ControlBatchOrRecords) (t : Tables) (s : List ℕ) → Taken e b kind
-    → entriesGiven e (pos codec) t s ≡ batchGiven (viewFields b) codec (viewWanted kind) t s
+given-alike : (mode : ControlMode) (e : List ℤ) (b : RecordBatch) (codec : ℕ) (kind : ControlBatchOrRecords) (t : Tables) (s : List ℕ) → Taken e b kind
+    → entriesGiven mode e (pos codec) t s ≡ batchGiven mode (viewFields b) codec (viewWanted kind) t s
 unfolding batchGiven
-given-alike e b codec kind t s taken =
+given-alike mode e b codec kind t s taken =
     elim (ℕ-discrete codec 0) [
       | yes z ↦ rw (z, taken) refl
       | no z ↦ rw (ne-eqb codec 0 z) refl
     ]
 
 pub measures-alike : MeasuresAlike
-measures-alike e b codec kind t s r o taken p q =
-    subst (λ (a : Writing.Answer). Sizes a o) (ap measured (given-alike e b codec kind t s taken) ∙ sym p) q
+measures-alike mode e b codec kind t s r o taken p q =
+    subst (λ (a : Writing.Answer). Sizes a o) (ap measured (given-alike mode e b codec kind t s taken) ∙ sym p) q
 
 pub writes-alike : WritesAlike
-writes-alike e b codec kind t s out o o′ taken p q =
-    let same = given-alike e b codec kind t s taken in (
+writes-alike mode e b codec kind t s out o o′ taken p q =
+    let same = given-alike mode e b codec kind t s taken in (
       subst (λ (a : Writing.Answer). Sizes a (o′ .said)) (ap (answerDue 0 out) same ∙ sym (p .by .answer)) (q .said),
       q .output ∙ ap (outputDue 0 out) same ∙ sym (p .by .output),
     )
@@ -53,8 +71,8 @@ writes-alike e b codec kind t s out o o′ taken p q =
 -- ---- the canonical check
 
 pub canonical-alike : CanonicalAlike
-canonical-alike s true n e p = p .yes .1 (e .says .0 refl)
-canonical-alike s false n e p = p .no .1 (λ is. false≢true (e .says .1 is))
+canonical-alike mode s true n e p = p .yes .1 (e .says .0 refl)
+canonical-alike mode s false n e p = p .no .1 (λ is. false≢true (e .says .1 is))
 
 -- ---- times
 

@@ -15,6 +15,7 @@ use mir.ValLaws.{toZ-ofZ}
 use Rattle.numbers.specs.Pick.{pick}
 use Rattle.records.specs.Rows.{Tables}
 use Rattle.asking.specs.declared.WriteFault.{WriteFault}
+use Rattle.layout.specs.declared.ControlMode.{ControlMode}
 use Rattle.layout.specs.Batch.{Fields}
 use Rattle.writing.specs.declared.Written.{Written}
 use Rattle.writing.specs.Answers.{Answer, writes, refuses, viewWritten, Given, given, refused, measured, answerDue, outputDue}
@@ -33,7 +34,7 @@ use Rattle.batches.proofs.Again.{none-not-some}
 use Rattle.batches.proofs.Giving.{written-length}
 use Rattle.oddrafisk.specs.declared.asked.BatchAsked.{BatchAsked}
 use Rattle.oddrafisk.specs.declared.asked.KindAsked.{KindAsked}
-use Rattle.oddrafisk.specs.Entries.{fieldsFit, fieldsOf, kindWanted, AskedBatch, askedWith, entriesAsked}
+use Rattle.oddrafisk.specs.Entries.{modeOf, fieldsFit, fieldsOf, kindWanted, AskedBatch, askedWith, entriesAsked}
 use Rattle.oddrafisk.specs.Promises.{givenFor, entriesGiven, Sizes, MeasurePromise, Handed, WritePromise}
 use Rattle.oddrafisk.specs.Words.{viewAsked, viewKindAsked, WritesFor}
 use Rattle.oddrafisk.proofs.Tests.{is-so, is-not}
@@ -68,13 +69,13 @@ module _ (e : List ℤ) (r : Bool) (t : r ≡ fieldsFit e) where
 
 -- ---- what is given for them
 
-module _ (e : List ℤ) (codec : ℤ) (f : SFits w64 codec) (t : Tables) (s : List ℕ) where
+module _ (mode : ControlMode) (e : List ℤ) (codec : ℤ) (f : SFits w64 codec) (t : Tables) (s : List ℕ) where
   abbrev gives : Given
-  gives = entriesGiven e codec t s
+  gives = entriesGiven mode e codec t s
 
   -- what is written for them, where the entries ask for nothing that is not of its width
   writes-for : ((i : ℕ) → Fits w8 (getD s i 0)) → ((b : AskedBatch) → is 0 codec ≡ true → entriesAsked e ≡ some b → InWidth (b .fields))
-      → (g : Given) → g ≡ gives → (out : List ℕ) (o : Writing.WriteOutcome) → WriteBy g 0 out o → WritesFor e codec t s out o
+      → (g : Given) → g ≡ gives → (out : List ℕ) (o : Writing.WriteOutcome) → WriteBy g 0 out o → WritesFor mode e codec t s out o
   writes-for bytes widths g same out o w =
       record {
         handed = record { source = λ i. bytes i .fits; fields = widths };
@@ -88,38 +89,38 @@ module _ (e : List ℤ) (codec : ℤ) (f : SFits w64 codec) (t : Tables) (s : Li
   measure-codec z = ap measured (codec-refused z)
 
   pub write-codec : (ofZ w64 codec ≡ 0 → ⊥) → ((i : ℕ) → Fits w8 (getD s i 0)) → (out : List ℕ)
-      → WritesFor e codec t s out (record { result = Written.Refused WriteFault.Codec; output = out })
+      → WritesFor mode e codec t s out (record { result = Written.Refused WriteFault.Codec; output = out })
   write-codec z bytes out =
       writes-for bytes (λ b is _. absurd (true≢false (sym is ∙ is-not codec f 0 (omega arith) z))) (refused 20) (codec-refused z) out _
       (record { answer = refl; output = refl })
 
   module _ (z : ofZ w64 codec ≡ 0) (x : BatchAsked) (v : viewAsked x ≡ entriesAsked e) where
-    given-by : givenFor (viewAsked x) t s ≡ gives
-    given-by = rw (is-so codec f 0 (omega arith) z) (ap (λ (a : Option AskedBatch). givenFor a t s) v)
+    given-by : givenFor mode (viewAsked x) t s ≡ gives
+    given-by = rw (is-so codec f 0 (omega arith) z) (ap (λ (a : Option AskedBatch). givenFor mode a t s) v)
 
     module _ (w : x ≡ BatchAsked.Wrong) where
       entries-refused : refused 21 ≡ gives
-      entries-refused = ap (λ (x : BatchAsked). givenFor (viewAsked x) t s) (sym w) ∙ given-by
+      entries-refused = ap (λ (x : BatchAsked). givenFor mode (viewAsked x) t s) (sym w) ∙ given-by
 
       pub measure-wrong : refuses 21 ≡ measured gives
       measure-wrong = ap measured entries-refused
 
       pub write-wrong : ((i : ℕ) → Fits w8 (getD s i 0)) → (out : List ℕ)
-          → WritesFor e codec t s out (record { result = Written.Refused WriteFault.Row; output = out })
+          → WritesFor mode e codec t s out (record { result = Written.Refused WriteFault.Row; output = out })
       write-wrong bytes out =
           writes-for bytes (λ b _ is. none-not-some (ap viewAsked (sym w) ∙ v ∙ is)) (refused 21) entries-refused out _
           (record { answer = refl; output = refl })
 
     module _ (b : RecordBatch) (k : ControlBatchOrRecords) (w : x ≡ BatchAsked.Got b k) where
-      entries-given : batchGiven (viewFields b) 0 (viewWanted k) t s ≡ gives
-      entries-given = ap (λ (x : BatchAsked). givenFor (viewAsked x) t s) (sym w) ∙ given-by
+      entries-given : batchGiven mode (viewFields b) 0 (viewWanted k) t s ≡ gives
+      entries-given = ap (λ (x : BatchAsked). givenFor mode (viewAsked x) t s) (sym w) ∙ given-by
 
-      pub measure-got : (r : Written) → viewWritten r ≡ measured (batchGiven (viewFields b) 0 (viewWanted k) t s) → viewWritten r ≡ measured gives
+      pub measure-got : (r : Written) → viewWritten r ≡ measured (batchGiven mode (viewFields b) 0 (viewWanted k) t s) → viewWritten r ≡ measured gives
       measure-got r p = p ∙ ap measured entries-given
 
-      pub write-got : ((i : ℕ) → Fits w8 (getD s i 0)) → (out : List ℕ) (o : Writing.WriteOutcome) → Batches.WritePromise b 0 k t s out o
-          → WritesFor e codec t s out o
-      write-got bytes out o p = writes-for bytes widths (batchGiven (viewFields b) 0 (viewWanted k) t s) entries-given out o (p .by)
+      pub write-got : ((i : ℕ) → Fits w8 (getD s i 0)) → (out : List ℕ) (o : Writing.WriteOutcome) → Batches.WritePromise mode b 0 k t s out o
+          → WritesFor mode e codec t s out o
+      write-got bytes out o p = writes-for bytes widths (batchGiven mode (viewFields b) 0 (viewWanted k) t s) entries-given out o (p .by)
         where
           widths : (a : AskedBatch) → is 0 codec ≡ true → entriesAsked e ≡ some a → InWidth (a .fields)
           widths a _ is =
@@ -132,23 +133,23 @@ abbrev Short : Given → Type 0
 Short (given bs) = length bs ≤ 2147483659
 Short (refused n) = Unit {0}
 
-batch-short : (x : Fields) (wanted : Wanted) (t : Tables) (s : List ℕ) (g : Given) → batchGiven x 0 wanted t s ≡ g → Short g
-batch-short x wanted t s (given bs) e =
-    let g = given-for x 0 wanted t s e in
+batch-short : (mode : ControlMode) (x : Fields) (wanted : Wanted) (t : Tables) (s : List ℕ) (g : Given) → batchGiven mode x 0 wanted t s ≡ g → Short g
+batch-short mode x wanted t s (given bs) e =
+    let g = given-for mode x 0 wanted t s e in
     let b = shows x s (g .content) in
-    rw (g .bytes) (omega (arith, g .short, content-length b, written-length b))
-batch-short x wanted t s (refused n) e = tt
+    rw (g .bytes) (omega (arith, g .short, content-length mode b, written-length mode b))
+batch-short mode x wanted t s (refused n) e = tt
 
-entries-short : (e : List ℤ) (codec : ℤ) (t : Tables) (s : List ℕ) → Short (entriesGiven e codec t s)
-entries-short e codec t s = pick-short (is 0 codec) (givenFor (entriesAsked e) t s) (for (entriesAsked e))
+entries-short : (mode : ControlMode) (e : List ℤ) (codec : ℤ) (t : Tables) (s : List ℕ) → Short (entriesGiven mode e codec t s)
+entries-short mode e codec t s = pick-short (is 0 codec) (givenFor mode (entriesAsked e) t s) (for (entriesAsked e))
   where
     pick-short : (b : Bool) (g : Given) → Short g → Short (pick b g (refused 20))
     pick-short true g h = h
     pick-short false g h = tt
 
-    for : (a : Option AskedBatch) → Short (givenFor a t s)
+    for : (a : Option AskedBatch) → Short (givenFor mode a t s)
     for none = tt
-    for (some b) = batch-short (b .fields) (b .wanted) t s _ refl
+    for (some b) = batch-short mode (b .fields) (b .wanted) t s _ refl
 
 measured-short : (g : Given) → Short g → measured g .bytes ≤ 2147483659
 measured-short (given bs) h = h
@@ -176,36 +177,38 @@ module _ (a : Answer) (r : Written) (v : viewWritten r ≡ a) where
       is : l ≡ pos (a .bytes)
       is = q ∙ ap (λ (a : Answer). pos (a .bytes)) v
 
-module _ (e : List ℤ) (codec : ℤ) (f : SFits w64 codec) (t : Tables) (s : List ℕ) where
+module _ (mode : ControlMode) (e : List ℤ) (codec : ℤ) (f : SFits w64 codec) (t : Tables) (s : List ℕ) where
   -- with the codec as it is handed over
   abbrev handed : Given
-  handed = entriesGiven e (toZ w64 (ofZ w64 codec)) t s
+  handed = entriesGiven mode e (toZ w64 (ofZ w64 codec)) t s
 
-  is-given : handed ≡ entriesGiven e codec t s
-  is-given = ap (λ (z : ℤ). entriesGiven e z t s) (toZ-ofZ w64 codec f)
+  is-given : handed ≡ entriesGiven mode e codec t s
+  is-given = ap (λ (z : ℤ). entriesGiven mode e z t s) (toZ-ofZ w64 codec f)
 
   short : Short handed
-  short = entries-short e (toZ w64 (ofZ w64 codec)) t s
+  short = entries-short mode e (toZ w64 (ofZ w64 codec)) t s
 
   module _ (r : Written) (v : viewWritten r ≡ measured handed) where
     pub measure-fits : viewWritten r .bytes ≤ 2147483659
     measure-fits = rw v (measured-short handed short)
 
-    pub measure-said : (n : ℕ) → n ≡ viewWritten r .number → (l : ℤ) → l ≡ pos (viewWritten r .bytes)
-        → MeasurePromise e codec t s (record { number = n; answer = toZ w64 (ofZ w64 l) ∷ [] })
-    measure-said n p l q =
-        subst (λ (g : Given). Sizes (measured g) (record { number = n; answer = toZ w64 (ofZ w64 l) ∷ [] })) is-given
-        (said _ r v n p l q (measured-short handed short))
+    pub measure-said : (k : ℕ) → mode ≡ modeOf k → (n : ℕ) → n ≡ viewWritten r .number → (l : ℤ) → l ≡ pos (viewWritten r .bytes)
+        → MeasurePromise (modeOf k) e codec t s (record { number = n; answer = toZ w64 (ofZ w64 l) ∷ [] })
+    measure-said k by n p l q =
+        subst (λ (mode : ControlMode). MeasurePromise mode e codec t s (record { number = n; answer = toZ w64 (ofZ w64 l) ∷ [] })) by
+        (subst (λ (g : Given). Sizes (measured g) (record { number = n; answer = toZ w64 (ofZ w64 l) ∷ [] })) is-given
+        (said _ r v n p l q (measured-short handed short)))
 
-  module _ (out : List ℕ) (o : Writing.WriteOutcome) (w : WritesFor e (toZ w64 (ofZ w64 codec)) t s out o) where
+  module _ (out : List ℕ) (o : Writing.WriteOutcome) (w : WritesFor mode e (toZ w64 (ofZ w64 codec)) t s out o) where
     pub write-fits : viewWritten (o .result) .bytes ≤ 2147483659
     write-fits = rw (w .by .answer) (due-short out handed short)
 
-    pub write-said : (n : ℕ) → n ≡ viewWritten (o .result) .number → (l : ℤ) → l ≡ pos (viewWritten (o .result) .bytes)
-        → WritePromise e codec t s out (record { said = record { number = n; answer = toZ w64 (ofZ w64 l) ∷ [] }; output = o .output })
-    write-said n p l q =
-        record {
+    pub write-said : (k : ℕ) → mode ≡ modeOf k → (n : ℕ) → n ≡ viewWritten (o .result) .number → (l : ℤ) → l ≡ pos (viewWritten (o .result) .bytes)
+        → WritePromise (modeOf k) e codec t s out (record { said = record { number = n; answer = toZ w64 (ofZ w64 l) ∷ [] }; output = o .output })
+    write-said k by n p l q =
+        subst (λ (mode : ControlMode). WritePromise mode e codec t s out (record { said = record { number = n; answer = toZ w64 (ofZ w64 l) ∷ [] }; output = o .output })) by
+        (record {
           handed = subst (λ (z : ℤ). Handed e z s) (toZ-ofZ w64 codec f) (w .handed);
           said = subst (λ (g : Given). Sizes (answerDue 0 out g) (record { number = n; answer = toZ w64 (ofZ w64 l) ∷ [] })) is-given (said _ (o .result) (w .by .answer) n p l q (due-short out handed short));
           output = w .by .output ∙ ap (outputDue 0 out) is-given;
-        }
+        })

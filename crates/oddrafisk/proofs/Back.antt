@@ -19,6 +19,7 @@ use Rattle.asking.specs.Asked.{RowPlace, recordsAsked}
 use Rattle.records.specs.Format.{Record}
 use Rattle.records.specs.Judgement.{RecordSpans}
 use Rattle.records.specs.Rows.{Tables}
+use Rattle.layout.specs.declared.ControlMode.{ControlMode}
 use Rattle.layout.specs.Batch.{Fields, abort, commit, Content, control, records, Batch}
 use Rattle.layout.specs.Format.{BatchBytes}
 use Rattle.writing.specs.declared.Written.{Written}
@@ -155,17 +156,17 @@ module _ (e : List ℤ) (x : Fields) (k : Kind) (n m bytes : ℕ) where
 
 -- ---- an encoding of what was asked for is read as that
 
-module _ (e : List ℤ) (b : AskedBatch) (t : Tables) (source : List ℕ) (c : Content RecordSpans) (p : RowPlace) (w : entriesAsked e ≡ some b)
+module _ (mode : ControlMode) (e : List ℤ) (b : AskedBatch) (t : Tables) (source : List ℕ) (c : Content RecordSpans) (p : RowPlace) (w : entriesAsked e ≡ some b)
     (is-asked : contentAsked (b .wanted) t source ≡ ok c p) where
-  same-in-c : (bs after : List ℕ) (t′ : Tables) (o : ReadOutcome) → BatchBytes true bs (shows (b .fields) source c)
-      → ReadPromise (bs ++ after) t′ o → Enough c t′ → SameInC e c source (length bs) (bs ++ after) t′ o
+  same-in-c : (bs after : List ℕ) (t′ : Tables) (o : ReadOutcome) → BatchBytes mode true bs (shows (b .fields) source c)
+      → ReadPromise mode (bs ++ after) t′ o → Enough c t′ → SameInC e c source (length bs) (bs ++ after) t′ o
   same-in-c bs after t′ o g promise enough =
       let s = bs ++ after in
-      let (judged, shown) = complete true s 0 0 (length bs) bs (shows (b .fields) source c) (in-front bs after) g in
+      let (judged, shown) = complete mode true s 0 0 (length bs) bs (shows (b .fields) source c) (in-front bs after) g in
       let read : Accepted = placedBatch 0 0 g in
       let same = ap (λ (x : Batch Record). x .content) shown in
       let room = room-enough s source (read .content) c t′ same enough in
-      let answer : answerOf (judge s) (roomsOf t′) ≡ acceptedAs read = rw (judged, room) refl in
+      let answer : answerOf (judge mode s) (roomsOf t′) ≡ acceptedAs read = rw (judged, room) refl in
       let told = promise .said .answer ∙ ap entriesOf answer in
       let stores : o .tables ≡ stored (read .content) 0 t′ = promise .tables ∙ rw (judged, room) refl in
       let (many, headers) = counts-same s source (read .content) c same in
@@ -185,29 +186,29 @@ module _ (e : List ℤ) (b : AskedBatch) (t : Tables) (source : List ℕ) (c : C
 
 -- ---- what was accepted
 
-for-numbered : (a : Option AskedBatch) (t : Tables) (s : List ℕ) → Numbered (givenFor a t s)
-for-numbered none t s = omega arith
-for-numbered (some b) t s = given-numbered (b .fields) 0 (b .wanted) t s
+for-numbered : (mode : ControlMode) (a : Option AskedBatch) (t : Tables) (s : List ℕ) → Numbered (givenFor mode a t s)
+for-numbered mode none t s = omega arith
+for-numbered mode (some b) t s = given-numbered mode (b .fields) 0 (b .wanted) t s
 
-entries-numbered : (e : List ℤ) (codec : ℤ) (t : Tables) (s : List ℕ) → Numbered (entriesGiven e codec t s)
-entries-numbered e codec t s = pick-numbered (is 0 codec) (givenFor (entriesAsked e) t s) 20 (for-numbered (entriesAsked e) t s) (omega arith)
+entries-numbered : (mode : ControlMode) (e : List ℤ) (codec : ℤ) (t : Tables) (s : List ℕ) → Numbered (entriesGiven mode e codec t s)
+entries-numbered mode e codec t s = pick-numbered (is 0 codec) (givenFor mode (entriesAsked e) t s) 20 (for-numbered mode (entriesAsked e) t s) (omega arith)
 
-given-asked : (a : Option AskedBatch) (t : Tables) (s : List ℕ) {bs : List ℕ} → givenFor a t s ≡ given bs
-    → (b : AskedBatch) × (a ≡ some b) × (batchGiven (b .fields) 0 (b .wanted) t s ≡ given bs)
-given-asked none t s e = given-not-refused (sym e)
-given-asked (some b) t s e = (b, refl, e)
+given-asked : (mode : ControlMode) (a : Option AskedBatch) (t : Tables) (s : List ℕ) {bs : List ℕ} → givenFor mode a t s ≡ given bs
+    → (b : AskedBatch) × (a ≡ some b) × (batchGiven mode (b .fields) 0 (b .wanted) t s ≡ given bs)
+given-asked mode none t s e = given-not-refused (sym e)
+given-asked mode (some b) t s e = (b, refl, e)
 
 pub reads-back-in-c : ReadsBackInC
-reads-back-in-c e codec t s out w promise zero =
-    let due : Writing.Answer = answerDue 0 out (entriesGiven e codec t s) in
+reads-back-in-c mode e codec t s out w promise zero =
+    let due : Writing.Answer = answerDue 0 out (entriesGiven mode e codec t s) in
     let none : 0 ≡ due .number = sym zero ∙ promise .said .number in
     let n : ℕ = due .bytes in
-    let x = put (entriesGiven e codec t s) (entries-numbered e codec t s) 0 n out (record { result = Written.Bytes n; output = w .output })
+    let x = put (entriesGiven mode e codec t s) (entries-numbered mode e codec t s) 0 n out (record { result = Written.Bytes n; output = w .output })
     (λ i. record { number = none i; bytes = n }) (promise .output) in
-    let (codec-is, for) = pick-given (is 0 codec) (givenFor (entriesAsked e) t s) 20 (x .is) in
-    let (b, asks, gives) = given-asked (entriesAsked e) t s for in
-    let g = given-for (b .fields) 0 (b .wanted) t s gives in
-    let encodes = given-encodes (b .fields) (b .wanted) t s (promise .handed .fields b codec-is asks) (promise .handed .source) g in
+    let (codec-is, for) = pick-given (is 0 codec) (givenFor mode (entriesAsked e) t s) 20 (x .is) in
+    let (b, asks, gives) = given-asked mode (entriesAsked e) t s for in
+    let g = given-for mode (b .fields) 0 (b .wanted) t s gives in
+    let encodes = given-encodes mode (b .fields) (b .wanted) t s (promise .handed .fields b codec-is asks) (promise .handed .source) g in
     let begins : take n (w .output) ≡ x .bytes
     = ap (take n) (x .output-is) ∙ take-at (x .bytes) _ n (x .length-is) in
     record {
@@ -218,7 +219,7 @@ reads-back-in-c e codec t s out w promise zero =
       reads = λ after t′ o read enough.
           rw begins
           (subst (λ (n : ℕ). SameInC e (g .content) s n (x .bytes ++ after) t′ o) (x .length-is)
-          (same-in-c e b t s (g .content) (g .place) asks (g .is) (x .bytes) after t′ o encodes (rw begins at read) enough));
+          (same-in-c mode e b t s (g .content) (g .place) asks (g .is) (x .bytes) after t′ o encodes (rw begins at read) enough));
     }
 
 -- ---- what was read asks for itself
@@ -227,29 +228,29 @@ asked-kind : (c : Content RecordSpans) → askedKind (kindOf c) (recordsIn c) �
 asked-kind (control m) = refl
 asked-kind (records rs) = refl
 
-module _ (s : List ℕ) (t : Tables) (o : ReadOutcome) (promise : ReadPromise s t o) (a : Accepted) (j : judge s ≡ accepted a)
+module _ (mode : ControlMode) (s : List ℕ) (t : Tables) (o : ReadOutcome) (promise : ReadPromise mode s t o) (a : Accepted) (j : judge mode s ≡ accepted a)
     (room : hasRoom (a .content) (a .firstHeader) (roomsOf t) ≡ true) where
-  mine : Own s a
-  mine = own s a (promise .lent) j
+  mine : Own mode s a
+  mine = own mode s a (promise .lent) j
 
   told : o .said .answer ≡ entriesOf (acceptedAs a)
   told =
-      let answer : answerOf (judge s) (roomsOf t) ≡ acceptedAs a = rw (j, room) refl in
+      let answer : answerOf (judge mode s) (roomsOf t) ≡ acceptedAs a = rw (j, room) refl in
       promise .said .answer ∙ ap entriesOf answer
 
   stores : o .tables ≡ stored (a .content) 0 t
   stores = promise .tables ∙ rw (j, room) (ap (λ (row : ℕ). stored (a .content) row t) (mine .first))
 
-  gives : entriesGiven (o .said .answer) (pos 0) (o .tables) s ≡ given (rewritten s a)
+  gives : entriesGiven mode (o .said .answer) (pos 0) (o .tables) s ≡ given (rewritten mode s a)
   gives =
-      let (e, _) = sound s 0 0 a (promise .lent) j in
+      let (e, _) = sound mode s 0 0 a (promise .lent) j in
       let asks = entries-taken (a .fields) (kindOf (a .content)) (recordsIn (a .content)) (headersOf (a .content)) (a .consumed) (in-width (e .encodes)) in
-      (λ i. entriesGiven (told i) (pos 0) (stores i) s)
-      ∙ rw asks (ap (λ (w : Wanted). batchGiven (a .fields) 0 w (stored (a .content) 0 t) s) (asked-kind (a .content)))
+      (λ i. entriesGiven mode (told i) (pos 0) (stores i) s)
+      ∙ rw asks (ap (λ (w : Wanted). batchGiven mode (a .fields) 0 w (stored (a .content) 0 t) s) (asked-kind (a .content)))
       ∙ own-given t mine (ap (λ (row : ℕ). hasRoom (a .content) row (roomsOf t)) (sym (mine .first)) ∙ room)
 
-  says-so : (m : Outcome) {g : Writing.Answer} → Sizes g m → g ≡ writes (length (rewritten s a))
-      → m ≡ record { number = 0; answer = pos (length (rewritten s a)) ∷ [] }
+  says-so : (m : Outcome) {g : Writing.Answer} → Sizes g m → g ≡ writes (length (rewritten mode s a))
+      → m ≡ record { number = 0; answer = pos (length (rewritten mode s a)) ∷ [] }
   says-so m x e =
       λ i. record {
         number = (x .number ∙ ap (λ (g : Writing.Answer). g .number) e) i;
@@ -257,30 +258,30 @@ module _ (s : List ℕ) (t : Tables) (o : ReadOutcome) (promise : ReadPromise s 
       }
 
 pub handed-on : HandedOn
-handed-on s t o promise zero = by (judge s) refl (promise .said .number)
+handed-on mode s t o promise zero = by (judge mode s) refl (promise .said .number)
   where
-    with-room : (a : Accepted) → judge s ≡ accepted a → hasRoom (a .content) (a .firstHeader) (roomsOf t) ≡ true → HandsOn s t o
+    with-room : (a : Accepted) → judge mode s ≡ accepted a → hasRoom (a .content) (a .firstHeader) (roomsOf t) ≡ true → HandsOn mode s t o
     with-room a j room =
-        let bs = rewritten s a in
-        let is = gives s t o promise a j room in
-        let less = mine s t o promise a j room .within in
+        let bs = rewritten mode s a in
+        let is = gives mode s t o promise a j room in
+        let less = mine mode s t o promise a j room .within in
         record {
           consumed = a .consumed;
           size = length bs;
-          consumed-is = ap (λ (l : List ℤ). getD l 13 (pos 0)) (told s t o promise a j room);
+          consumed-is = ap (λ (l : List ℤ). getD l 13 (pos 0)) (told mode s t o promise a j room);
           within = less;
-          measures = λ m x. says-so s t o promise a j room m x (ap measured is);
+          measures = λ m x. says-so mode s t o promise a j room m x (ap measured is);
           writes = λ out w x h.
-              says-so s t o promise a j room (w .said) (x .said)
+              says-so mode s t o promise a j room (w .said) (x .said)
               (ap (answerDue 0 out) is ∙ rw (le-leb (0 + length bs) (length out) (omega arith)) refl);
         }
 
-    tested : (a : Accepted) → judge s ≡ accepted a → (r : Bool) → hasRoom (a .content) (a .firstHeader) (roomsOf t) ≡ r
-        → o .said .number ≡ pick r (acceptedAs a) (lacksRoom (recordsIn (a .content)) (headersOf (a .content))) .number → HandsOn s t o
+    tested : (a : Accepted) → judge mode s ≡ accepted a → (r : Bool) → hasRoom (a .content) (a .firstHeader) (roomsOf t) ≡ r
+        → o .said .number ≡ pick r (acceptedAs a) (lacksRoom (recordsIn (a .content)) (headersOf (a .content))) .number → HandsOn mode s t o
     tested a j true h e = with-room a j h
     tested a j false h e = absurd (omega (arith, sym zero ∙ e))
 
-    by : (k : Judgement) → judge s ≡ k → o .said .number ≡ answerOf k (roomsOf t) .number → HandsOn s t o
+    by : (k : Judgement) → judge mode s ≡ k → o .said .number ≡ answerOf k (roomsOf t) .number → HandsOn mode s t o
     by (more n) j e = absurd (omega (arith, sym zero ∙ e))
-    by (Judging.refused n) j e = absurd (refused-some s n j (sym e ∙ zero))
+    by (Judging.refused n) j e = absurd (refused-some mode s n j (sym e ∙ zero))
     by (accepted a) j e = tested a j _ refl e

@@ -17,9 +17,10 @@ use Rattle.primitives.proofs.Steps.{and-then-ok, map-ok, pick-ok}
 use Rattle.records.specs.Judgement.{RecordSpans, runAt, recordsAt}
 use Rattle.records.specs.Rows.{headersIn}
 use Rattle.records.proofs.RecordMoves.{counts-bounded}
+use Rattle.layout.specs.declared.ControlMode.{ControlMode}
 use Rattle.layout.specs.Table.{table}
 use Rattle.layout.specs.Batch.{Content, control, records}
-use Rattle.opening.specs.Judgement.{Judged, more, refused, accepted, Accepted, Judgement, unsignedIn, numberIn, attributesIn, contentAt, bareMarkerAt, totalAt, wholeAt, judgementOf, judgeWhole, judgeWith, judge}
+use Rattle.opening.specs.Judgement.{Control, Judged, more, refused, accepted, Accepted, Judgement, unsignedIn, numberIn, attributesIn, contentAt, wayOf, totalAt, wholeAt, judgementOf, judgeWhole, judgeWith, judge}
 use Rattle.opening.proofs.Tests.{Totals, few, low, short, unknown, lacking, there, totals}
 use Rattle.batches.specs.Answers.{wants, recordsIn, headersOf, acceptedAs, lacksRoom, answerWithRoom, hasRoom, answerOf}
 use Rattle.batches.proofs.Passed.{passed}
@@ -54,32 +55,32 @@ records-within s count p {rs} {q} e =
         let end = eqb-true q′ (length s) t in
         rw (← same) (omega (arith, n, bound, end), omega (arith, bound, end))
 
-content-within : (c : Content RecordSpans) (isControl : Bool) (s : List ℕ) (count p q : ℕ) → contentAt bareMarkerAt isControl s count p ≡ ok c q
-    → (recordsIn c ≤ length s) × (headersOf c ≤ length s)
-content-within (control m) isControl s count p q e = (omega arith, omega arith)
-content-within (records rs) true s count p q e =
-    let (_, _, w) = map-ok control (bareMarkerAt s p) e in
+content-within : (way : Control) (c : Content RecordSpans) (isControl : Bool) (s : List ℕ) (count p q : ℕ)
+    → contentAt way isControl s count p ≡ ok c q → (recordsIn c ≤ length s) × (headersOf c ≤ length s)
+content-within way (control m) isControl s count p q e = (omega arith, omega arith)
+content-within way (records rs) true s count p q e =
+    let (_, _, w) = map-ok control (way s p) e in
     let z : _≡_ {A = ℕ} 0 1 = cc in absurd (omega arith)
-content-within (records rs) false s count p q e =
+content-within way (records rs) false s count p q e =
     let (rs′, was, w) = map-ok records (recordsAt s count p) e in
     let same : rs′ ≡ rs = cc in
     rw (← same) (records-within s count p was)
 
-accepted-counted : (s : List ℕ) (b : Accepted) → judge s ≡ accepted b
+accepted-counted : (mode : ControlMode) (s : List ℕ) (b : Accepted) → judge mode s ≡ accepted b
     → (recordsIn (b .content) ≤ 2147483659) × (headersOf (b .content) ≤ 2147483659) × (b .consumed ≤ 2147483659)
-accepted-counted s b e =
-    let p = passed bareMarkerAt s 0 0 b e in
+accepted-counted mode s b e =
+    let p = passed (wayOf mode) s 0 0 b e in
     let n = length-below s (p .size) (p .batchLength) in
     let w : List ℕ = take (0 + (12 + p .size)) s in
-    let (x, y) = content-within (p .content) (attributesIn w 0 .control) w (p .read .count) (0 + 61) (p .read .end) (p .read .reads) in
+    let (x, y) = content-within (wayOf mode) (p .content) (attributesIn w 0 .control) w (p .read .count) (0 + 61) (p .read .end) (p .read .reads) in
     let cut = length-take (0 + (12 + p .size)) s in
     rw (p .is) (omega (arith, n, x, cut), omega (arith, n, y, cut), omega (arith, n))
 
 -- ---- more bytes
 
-more-counted : (s : List ℕ) (n : ℕ) → judge s ≡ more n → n ≤ 2147483659
+more-counted : (mode : ControlMode) (s : List ℕ) (n : ℕ) → judge mode s ≡ more n → n ≤ 2147483659
 unfolding judgeWith
-more-counted s n e = subst Small e (small (totalAt s 0) (totals s 0))
+more-counted mode s n e = subst Small e (small (totalAt s 0) (totals s 0))
   where
     Small : Judgement → Type 0
     Small (more n) = n ≤ 2147483659
@@ -90,42 +91,42 @@ more-counted s n e = subst Small e (small (totalAt s 0) (totals s 0))
     whole (ok b p) = tt
     whole (no n) = tt
 
-    small : (x : Judged ℕ) → Totals s 0 x → Small (judgeWhole bareMarkerAt s 0 0 x)
+    small : (x : Judged ℕ) → Totals s 0 x → Small (judgeWhole (wayOf mode) s 0 0 x)
     small _ (few h) = omega arith
     small _ (low h e) = tt
     small _ (short h e f g) = omega arith
     small _ (unknown h e f m) = tt
     small _ (lacking {n} h e f m g) = omega (arith, length-below s n e)
-    small _ (there {n} h e f m g) = whole (wholeAt bareMarkerAt (take (0 + (12 + n)) s) 0 0 (12 + n))
+    small _ (there {n} h e f m g) = whole (wholeAt (wayOf mode) (take (0 + (12 + n)) s) 0 0 (12 + n))
 
 -- ---- the statements
 
 zeros : (number : ℕ) → Counted (record { number = number; fields = none; kind = none; records = 0; headers = 0; bytes = 0 })
 zeros number = record { records = omega arith; headers = omega arith; bytes = omega arith }
 
-module _ (s : List ℕ) where
-  wanted : (n : ℕ) → judge s ≡ more n → Counted (wants n)
-  wanted n e = record { records = omega arith; headers = omega arith; bytes = more-counted s n e }
+module _ (mode : ControlMode) (s : List ℕ) where
+  wanted : (n : ℕ) → judge mode s ≡ more n → Counted (wants n)
+  wanted n e = record { records = omega arith; headers = omega arith; bytes = more-counted mode s n e }
 
-  fits : (b : Accepted) → judge s ≡ accepted b → Counted (acceptedAs b)
-  fits b e = let (x, y, z) = accepted-counted s b e in record { records = x; headers = y; bytes = z }
+  fits : (b : Accepted) → judge mode s ≡ accepted b → Counted (acceptedAs b)
+  fits b e = let (x, y, z) = accepted-counted mode s b e in record { records = x; headers = y; bytes = z }
 
 pub check-counted : CheckCounted
-check-counted s = go (judge s) refl
+check-counted mode s = go (judge mode s) refl
   where
-    go : (j : Judgement) → judge s ≡ j → Counted (answerWithRoom j)
-    go (more n) e = wanted s n e
+    go : (j : Judgement) → judge mode s ≡ j → Counted (answerWithRoom j)
+    go (more n) e = wanted mode s n e
     go (refused n) e = zeros n
-    go (accepted b) e = fits s b e
+    go (accepted b) e = fits mode s b e
 
 pub read-counted : ReadCounted
-read-counted s r = go (judge s) refl
+read-counted mode s r = go (judge mode s) refl
   where
-    go : (j : Judgement) → judge s ≡ j → Counted (answerOf j r)
-    go (more n) e = wanted s n e
+    go : (j : Judgement) → judge mode s ≡ j → Counted (answerOf j r)
+    go (more n) e = wanted mode s n e
     go (refused n) e = zeros n
     go (accepted b) e = either (hasRoom (b .content) (b .firstHeader) r)
       where
         either : (t : Bool) → Counted (pick t (acceptedAs b) (lacksRoom (recordsIn (b .content)) (headersOf (b .content))))
-        either true = fits s b e
-        either false = let (x, y, _) = accepted-counted s b e in record { records = x; headers = y; bytes = omega arith }
+        either true = fits mode s b e
+        either false = let (x, y, _) = accepted-counted mode s b e in record { records = x; headers = y; bytes = omega arith }

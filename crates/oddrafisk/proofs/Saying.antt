@@ -11,6 +11,7 @@ use mir.Syntax.{w64}
 use mir.Val.{SFits, toZ, ofZ}
 use mir.ValLaws.{toZ-ofZ}
 use Rattle.records.specs.Rows.{Tables}
+use Rattle.layout.specs.declared.ControlMode.{ControlMode}
 use Rattle.layout.specs.declared.RecordTime.{RecordTime}
 use Rattle.layout.specs.declared.RecordBatchTimestampType.{RecordBatchTimestampType}
 use Rattle.layout.specs.Batch.{TimestampType}
@@ -19,7 +20,7 @@ use Rattle.layout.specs.Time.{recordTime, viewTime}
 use Rattle.batches.specs.declared.BatchCheck.{BatchCheck}
 use Rattle.batches.specs.Answers.{Answer, viewCheck, viewRead, roomsOf}
 use Rattle.batches.specs.Promises as Batches
-use Rattle.oddrafisk.specs.Entries.{entriesOf, is0or1, typeOf}
+use Rattle.oddrafisk.specs.Entries.{modeOf, entriesOf, is0or1, typeOf}
 use Rattle.oddrafisk.specs.Promises.{Outcome, Says, CheckPromise, ReadPromise, CanonicalPromise, timed, timeFor, timeSaid, RecordTimePromise}
 use Rattle.oddrafisk.specs.Statements.{Counted}
 use Rattle.oddrafisk.specs.Words.{countsOf}
@@ -41,40 +42,47 @@ module _ {R : Type 0} (view : R → Answer) (r r′ : R) (e : r ≡ r′) where
 
 -- ---- the check
 
-module _ (s : List ℕ) (r : BatchCheck) (e : Batches.CheckPromise s r) where
+module _ (mode : ControlMode) (s : List ℕ) (r : BatchCheck) (e : Batches.CheckPromise mode s r) where
   pub check-fits : Counted (viewCheck r)
-  check-fits = subst⁻¹ Counted (e .answer) (check-counted s)
+  check-fits = subst⁻¹ Counted (e .answer) (check-counted mode s)
 
-  pub check-said : (o : Outcome) → Says (viewCheck r) o → CheckPromise s o
-  check-said o x = record { lent = e .lent; said = subst (λ (a : Answer). Says a o) (e .answer) x }
+  pub check-said : (n : ℕ) → mode ≡ modeOf n → (o : Outcome) → Says (viewCheck r) o → CheckPromise (modeOf n) s o
+  check-said n by o x =
+      subst (λ (mode : ControlMode). CheckPromise mode s o) by
+      (record { lent = e .lent; said = subst (λ (a : Answer). Says a o) (e .answer) x })
 
 -- ---- the reader
 
-module _ (s : List ℕ) (t : Tables) (o : Batches.ReadOutcome) (e : Batches.ReadPromise s t o) where
+module _ (mode : ControlMode) (s : List ℕ) (t : Tables) (o : Batches.ReadOutcome) (e : Batches.ReadPromise mode s t o) where
   pub read-fits : Counted (viewRead (o .result))
-  read-fits = subst⁻¹ Counted (e .by .answer) (read-counted s (roomsOf t))
+  read-fits = subst⁻¹ Counted (e .by .answer) (read-counted mode s (roomsOf t))
 
-  pub read-said : (x : Outcome) → Says (viewRead (o .result)) x → ReadPromise s t (record { said = x; tables = o .tables })
-  read-said x says = record { lent = e .lent; said = subst (λ (a : Answer). Says a x) (e .by .answer) says; tables = e .by .tables }
+  pub read-said : (n : ℕ) → mode ≡ modeOf n → (x : Outcome) → Says (viewRead (o .result)) x
+      → ReadPromise (modeOf n) s t (record { said = x; tables = o .tables })
+  read-said n by x says =
+      subst (λ (mode : ControlMode). ReadPromise mode s t (record { said = x; tables = o .tables })) by
+      (record { lent = e .lent; said = subst (λ (a : Answer). Says a x) (e .by .answer) says; tables = e .by .tables })
 
 -- ---- the canonical check
 
-module _ (s : List ℕ) (r : Bool) (e : Batches.CanonicalPromise s r) where
-  pub canonical-yes : r ≡ true → CanonicalPromise s 1
+module _ (n : ℕ) (mode : ControlMode) (by : mode ≡ modeOf n) (s : List ℕ) (r : Bool) (e : Batches.CanonicalPromise mode s r) where
+  pub canonical-yes : r ≡ true → CanonicalPromise (modeOf n) s 1
   canonical-yes h =
-      record {
+      subst (λ (mode : ControlMode). CanonicalPromise mode s 1) by
+      (record {
         lent = e .lent;
         yes = (λ _. e .says .0 h, λ _. refl);
         no = (λ z. absurd (omega (arith, z)), λ never. absurd (never (e .says .0 h)));
-      }
+      })
 
-  pub canonical-no : r ≡ false → CanonicalPromise s 0
+  pub canonical-no : r ≡ false → CanonicalPromise (modeOf n) s 0
   canonical-no h =
-      record {
+      subst (λ (mode : ControlMode). CanonicalPromise mode s 0) by
+      (record {
         lent = e .lent;
         yes = (λ z. absurd (omega (arith, z)), λ is. absurd (true≢false (sym (e .says .1 is) ∙ h)));
         no = (λ _ is. true≢false (sym (e .says .1 is) ∙ h), λ _. refl);
-      }
+      })
 
 -- ---- times, with the numbers as they are handed over
 

@@ -9,6 +9,7 @@ use Rattle.numbers.specs.Single.{Single}
 use Rattle.numbers.proofs.Single.{single-value}
 use Rattle.records.specs.Rows.{Tables}
 use Rattle.writing.specs.Answers as Writing
+use Rattle.layout.specs.declared.ControlMode.{ControlMode}
 use Rattle.batches.specs.Answers.{Answer}
 use Rattle.batches.specs.Promises.{Canonical}
 use Rattle.oddrafisk.specs.Promises.{Outcome, Says, CheckPromise, ReadPromise, Sizes, MeasurePromise, WritePromise, CanonicalPromise, RecordTimePromise, Crc32cPromise, VersionPromise}
@@ -26,30 +27,30 @@ single-sizes a o o′ e e′ = said-same o o′ (e .number ∙ sym (e′ .number
 
 -- ---- the promises
 
-pub single-check : (s : List ℕ) → Single (CheckPromise s)
-single-check s o o′ e e′ = single-says _ o o′ (e .said) (e′ .said)
+pub single-check : (mode : ControlMode) (s : List ℕ) → Single (CheckPromise mode s)
+single-check mode s o o′ e e′ = single-says _ o o′ (e .said) (e′ .said)
 
-pub single-read : (s : List ℕ) (t : Tables) → Single (ReadPromise s t)
-single-read s t o o′ e e′ =
+pub single-read : (mode : ControlMode) (s : List ℕ) (t : Tables) → Single (ReadPromise mode s t)
+single-read mode s t o o′ e e′ =
     let p = single-says _ (o .said) (o′ .said) (e .said) (e′ .said) in
     let q = e .tables ∙ sym (e′ .tables) in
     λ i. record { said = p i; tables = q i }
 
-pub single-measure : (e : List ℤ) (codec : ℤ) (t : Tables) (s : List ℕ) → Single (MeasurePromise e codec t s)
-single-measure e codec t s = single-sizes _
+pub single-measure : (mode : ControlMode) (e : List ℤ) (codec : ℤ) (t : Tables) (s : List ℕ) → Single (MeasurePromise mode e codec t s)
+single-measure mode e codec t s = single-sizes _
 
-pub single-write : (e : List ℤ) (codec : ℤ) (t : Tables) (s out : List ℕ) → Single (WritePromise e codec t s out)
-single-write e codec t s out o o′ w w′ =
+pub single-write : (mode : ControlMode) (e : List ℤ) (codec : ℤ) (t : Tables) (s out : List ℕ) → Single (WritePromise mode e codec t s out)
+single-write mode e codec t s out o o′ w w′ =
     let p = single-sizes _ (o .said) (o′ .said) (w .said) (w′ .said) in
     let q = w .output ∙ sym (w′ .output) in
     λ i. record { said = p i; output = q i }
 
-pub single-is-canonical : (s : List ℕ) → Single (CanonicalPromise s)
-single-is-canonical s r r′ e e′ =
+pub single-is-canonical : (mode : ControlMode) (s : List ℕ) → Single (CanonicalPromise mode s)
+single-is-canonical mode s r r′ e e′ =
     elim (ℕ-discrete r 1) [
       | yes h ↦ h ∙ sym (e′ .yes .1 (e .yes .0 h))
       | no h ↦
-          let never : Canonical s → ⊥ = λ is. h (e .yes .1 is) in
+          let never : Canonical mode s → ⊥ = λ is. h (e .yes .1 is) in
           e .no .1 never ∙ sym (e′ .no .1 never)
     ]
 

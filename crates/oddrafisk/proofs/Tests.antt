@@ -1,5 +1,5 @@
--- Numbers of 64 bits as the machine tests them: which are of a narrower width, and which number they are. Assumes
--- nothing.
+-- Numbers as the machine tests them: which are of a narrower width than 64 bits, and which number they are; and the
+-- mode, by its number. Assumes nothing.
 use Prim.Native.Nat.{ℕ, suc, _-_, _*_, _<_, _^_}
 use mathlib.Core.Path.{_≡_, refl, sym, _∙_, subst}
 use mathlib.Core.Bool.{true, false}
@@ -16,10 +16,19 @@ use mir.ValLaws.{toZ-ofZ}
 use Rattle.numbers.specs.Format.{InBits, inBits}
 use Rattle.numbers.proofs.InBits.{tested-in}
 use Rattle.numbers.proofs.Widths.{sign-bit}
+use Rattle.layout.specs.declared.ControlMode.{ControlMode}
 use Rattle.layout.specs.Batch.{abort, commit, createTime, logAppendTime}
 use Rattle.opening.specs.Judgement.{is}
 use Rattle.batches.specs.Writer.{marker, rows}
-use Rattle.oddrafisk.specs.Entries.{is0or1, typeOf, rowsOf, kindWanted}
+use Rattle.oddrafisk.specs.Entries.{modeOf, is0or1, typeOf, rowsOf, kindWanted}
+
+-- ---- the mode
+
+pub mode-keyed : (n : ℕ) → n ≡ 1 → ControlMode.Keyed ≡ modeOf n
+mode-keyed n e = rw (eq-eqb n 1 e) refl
+
+pub mode-bare : (n : ℕ) → (n ≡ 1 → ⊥) → ControlMode.Bare ≡ modeOf n
+mode-bare n e = rw (ne-eqb n 1 e) refl
 
 -- ---- widths
 

@@ -1,16 +1,25 @@
--- The sixteen entries of a batch, as programs in other languages see them: the reader answers by them, and the writer
--- takes them. bindings/c/oddrafisk.h names their places.
+-- The number of a mode and the sixteen entries of a batch, as programs in other languages see them: the reader answers
+-- by the entries, and the writer takes them. bindings/c/oddrafisk.h names the numbers and the places.
+use Prim.Native.Nat.{ℕ}
 use mathlib.Core.Bool.{Bool, true, false}
 use mathlib.Core.Option.{Option, none, some}
 use mathlib.Core.List.{List, [], _∷_}
+use lib.Dec.{eqb}
 use lib.IntN.{ℤ, pos, negsuc}
 use lib.ListN.{getD}
 use Rattle.numbers.specs.Format.{inBits}
 use Rattle.numbers.specs.Pick.{pick}
+use Rattle.layout.specs.declared.ControlMode.{ControlMode}
 use Rattle.layout.specs.Batch.{TimestampType, createTime, logAppendTime, Fields, abort, commit}
 use Rattle.opening.specs.Judgement.{is}
 use Rattle.batches.specs.Answers.{Kind, ofRecords, ofMarker, Answer}
 use Rattle.batches.specs.Writer.{Wanted, marker, rows}
+
+-- ---- the mode
+
+-- 1 is keyed, and every other number bare
+abbrev pub modeOf : ℕ → ControlMode
+modeOf n = pick (eqb n 1) ControlMode.Keyed ControlMode.Bare
 
 -- ---- what the reader answers
 

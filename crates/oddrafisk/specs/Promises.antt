@@ -1,7 +1,8 @@
 -- What each function that other languages call promises of its result and of what it is lent to change, for every value
 -- of every parameter. Each cites what the layer below promises: the same judgement, the same bytes given. All else is
 -- lent to be read: no function here can change it. That lent bytes are bytes, and fields that entries ask for of their
--- width, is promised too, so that no law about a function has to ask it.
+-- width, is promised too, so that no law about a function has to ask it. The mode is that of a number (`modeOf`,
+-- Entries.antt).
 use Prim.Native.Nat.{ℕ, _+_, _*_}
 use mathlib.Core.Path.{_≡_}
 use mathlib.Core.Bool.{true, false}
@@ -13,6 +14,7 @@ use Rattle.numbers.specs.Pick.{pick}
 use Rattle.numbers.specs.Exactly.{Exactly}
 use Rattle.crc32c.specs.Promises as Checksum
 use Rattle.records.specs.Rows.{Tables}
+use Rattle.layout.specs.declared.ControlMode.{ControlMode}
 use Rattle.layout.specs.Batch.{TimestampType, Fields}
 use Rattle.layout.specs.Time.{recordTime}
 use Rattle.writing.specs.Answers as Writing
@@ -37,9 +39,9 @@ pub record Says (a : Answer) (o : Outcome) : Type 0 where
   pub answer : o .answer ≡ entriesOf a
 
 -- oddrafisk_check, on bytes s: as RecordBatch::check
-pub record CheckPromise (s : List ℕ) (o : Outcome) : Type 0 where
+pub record CheckPromise (mode : ControlMode) (s : List ℕ) (o : Outcome) : Type 0 where
   pub lent : Bytes s
-  pub said : Says (answerWithRoom (judge s)) o
+  pub said : Says (answerWithRoom (judge mode s)) o
 
 -- the same, with both tables at exit
 pub record ReadOutcome : Type 0 where
@@ -47,21 +49,21 @@ pub record ReadOutcome : Type 0 where
   pub tables : Tables
 
 -- oddrafisk_read, on bytes s and tables t: as RecordBatch::read
-pub record ReadPromise (s : List ℕ) (t : Tables) (o : ReadOutcome) : Type 0 where
+pub record ReadPromise (mode : ControlMode) (s : List ℕ) (t : Tables) (o : ReadOutcome) : Type 0 where
   pub lent : Bytes s
-  pub said : Says (answerOf (judge s) (roomsOf t)) (o .said)
-  pub tables : o .tables ≡ tablesOf (judge s) t
+  pub said : Says (answerOf (judge mode s) (roomsOf t)) (o .said)
+  pub tables : o .tables ≡ tablesOf (judge mode s) t
 
 -- ---- the writer
 
 -- entries that no batch has are refused as such rows are
-abbrev pub givenFor : Option AskedBatch → Tables → List ℕ → Given
-givenFor none t s = refused 21
-givenFor (some b) t s = batchGiven (b .fields) 0 (b .wanted) t s
+abbrev pub givenFor : ControlMode → Option AskedBatch → Tables → List ℕ → Given
+givenFor mode none t s = refused 21
+givenFor mode (some b) t s = batchGiven mode (b .fields) 0 (b .wanted) t s
 
 -- document 01, Writer's numbers, in their order: the codec, then the entries, then as RecordBatch::write
-abbrev pub entriesGiven : List ℤ → ℤ → Tables → List ℕ → Given
-entriesGiven e codec t s = pick (is 0 codec) (givenFor (entriesAsked e) t s) (refused 20)
+abbrev pub entriesGiven : ControlMode → List ℤ → ℤ → Tables → List ℕ → Given
+entriesGiven mode e codec t s = pick (is 0 codec) (givenFor mode (entriesAsked e) t s) (refused 20)
 
 -- what says the number, and the length
 pub record Sizes (a : Writing.Answer) (o : Outcome) : Type 0 where
@@ -69,8 +71,8 @@ pub record Sizes (a : Writing.Answer) (o : Outcome) : Type 0 where
   pub answer : o .answer ≡ pos (a .bytes) ∷ []
 
 -- oddrafisk_measure, of entries e, a codec number, tables t and a source s
-abbrev pub MeasurePromise : List ℤ → ℤ → Tables → List ℕ → Outcome → Type 0
-MeasurePromise e codec t s o = Sizes (measured (entriesGiven e codec t s)) o
+abbrev pub MeasurePromise : ControlMode → List ℤ → ℤ → Tables → List ℕ → Outcome → Type 0
+MeasurePromise mode e codec t s o = Sizes (measured (entriesGiven mode e codec t s)) o
 
 -- what is handed in is of the machine's types: the source, and the fields that entries ask for
 pub record Handed (e : List ℤ) (codec : ℤ) (s : List ℕ) : Type 0 where
@@ -83,18 +85,18 @@ pub record WriteOutcome : Type 0 where
   pub output : List ℕ
 
 -- oddrafisk_write, into an output
-pub record WritePromise (e : List ℤ) (codec : ℤ) (t : Tables) (s out : List ℕ) (o : WriteOutcome) : Type 0 where
+pub record WritePromise (mode : ControlMode) (e : List ℤ) (codec : ℤ) (t : Tables) (s out : List ℕ) (o : WriteOutcome) : Type 0 where
   pub handed : Handed e codec s
-  pub said : Sizes (answerDue 0 out (entriesGiven e codec t s)) (o .said)
-  pub output : o .output ≡ outputDue 0 out (entriesGiven e codec t s)
+  pub said : Sizes (answerDue 0 out (entriesGiven mode e codec t s)) (o .said)
+  pub output : o .output ≡ outputDue 0 out (entriesGiven mode e codec t s)
 
 -- ---- the rest
 
 -- oddrafisk_is_canonical, on bytes s: 1 as RecordBatch::is_canonical, else 0
-pub record CanonicalPromise (s : List ℕ) (r : ℕ) : Type 0 where
+pub record CanonicalPromise (mode : ControlMode) (s : List ℕ) (r : ℕ) : Type 0 where
   pub lent : Bytes s
-  pub yes : Exactly (r ≡ 1) (Canonical s)
-  pub no : Exactly (r ≡ 0) (Canonical s → ⊥)
+  pub yes : Exactly (r ≡ 1) (Canonical mode s)
+  pub no : Exactly (r ≡ 0) (Canonical mode s → ⊥)
 
 -- the fields of a batch that times are told by; the others are 0
 abbrev pub timed : TimestampType → (first max : ℤ) → Fields
@@ -134,9 +136,9 @@ Crc32cPromise s r = Checksum.Crc32cPromise s r
 abbrev pub numbered : (major minor patch : ℕ) → ℕ
 numbered major minor patch = major * 1000000 + minor * 1000 + patch
 
--- this library's version, 0.2.0
+-- this library's version, 0.3.0
 abbrev pub version : ℕ
-version = numbered 0 2 0
+version = numbered 0 3 0
 
 -- oddrafisk_version
 abbrev pub VersionPromise : ℕ → Type 0

@@ -15,6 +15,7 @@ use Rattle.writing.specs.declared.Written.{Written}
 use Rattle.writing.specs.Answers.{viewWritten}
 use Rattle.writing.specs.Promises as Writing
 use Rattle.asking.specs.Asked.{RowPlace}
+use Rattle.layout.specs.declared.ControlMode.{ControlMode}
 use Rattle.layout.specs.Batch.{Fields, Content}
 use Rattle.layout.specs.Time.{recordTime}
 use Rattle.opening.specs.Judgement.{judge}
@@ -28,8 +29,15 @@ use Rattle.batches.specs.Writer.{Wanted, marker, rows, viewWanted, contentAsked
 use Rattle.batches.specs.Request.{InWidth}
 use Rattle.batches.specs.Filled.{Filled}
 use Rattle.batches.specs.Demand2.{Enough}
-use Rattle.oddrafisk.specs.Entries.{typeEntry, entriesOf, AskedBatch, entriesAsked}
+use Rattle.numbers.specs.Exactly.{Exactly}
+use Rattle.oddrafisk.specs.Entries.{modeOf, typeEntry, entriesOf, AskedBatch, entriesAsked}
 use Rattle.oddrafisk.specs.Promises.{Outcome, Says, CheckPromise, ReadOutcome, ReadPromise, Sizes, MeasurePromise, WriteOutcome, WritePromise, CanonicalPromise, timeFor}
+
+-- ---- the mode
+
+-- 1 is the keyed mode's number, and no other is.
+abbrev pub ModeNumbers : Type 0
+ModeNumbers = (n : ℕ) → Exactly (modeOf n ≡ ControlMode.Keyed) (n ≡ 1)
 
 -- ---- numbers
 
@@ -41,22 +49,24 @@ pub record Counted (a : Answer) : Type 0 where
 
 -- Whatever is checked or read, each count is a number that an entry holds.
 abbrev pub CheckCounted : Type 0
-CheckCounted = (s : List ℕ) → Counted (answerWithRoom (judge s))
+CheckCounted = (mode : ControlMode) (s : List ℕ) → Counted (answerWithRoom (judge mode s))
 
 abbrev pub ReadCounted : Type 0
-ReadCounted = (s : List ℕ) (r : Rooms) → Counted (answerOf (judge s) r)
+ReadCounted = (mode : ControlMode) (s : List ℕ) (r : Rooms) → Counted (answerOf (judge mode s) r)
 
 -- ---- the layer below
 
 -- The library says what RecordBatch::check answers.
 abbrev pub ChecksAlike : Type 0
-ChecksAlike = (s : List ℕ) (r : BatchCheck) (o : Outcome) → Batches.CheckPromise s r → CheckPromise s o → Says (viewCheck r) o
+ChecksAlike =
+    (mode : ControlMode) (s : List ℕ) (r : BatchCheck) (o : Outcome) → Batches.CheckPromise mode s r → CheckPromise mode s o
+    → Says (viewCheck r) o
 
 -- It says what RecordBatch::read answers, and fills both tables alike.
 abbrev pub ReadsAlike : Type 0
 ReadsAlike =
-    (s : List ℕ) (t : Tables) (o : Batches.ReadOutcome) (o′ : ReadOutcome) → Batches.ReadPromise s t o → ReadPromise s t o′
-    → Says (viewRead (o .result)) (o′ .said) × (o′ .tables ≡ o .tables)
+    (mode : ControlMode) (s : List ℕ) (t : Tables) (o : Batches.ReadOutcome) (o′ : ReadOutcome) → Batches.ReadPromise mode s t o
+    → ReadPromise mode s t o′ → Says (viewRead (o .result)) (o′ .said) × (o′ .tables ≡ o .tables)
 
 -- the entries are taken, and ask for these fields and this kind
 abbrev pub Taken : List ℤ → RecordBatch → ControlBatchOrRecords → Type 0
@@ -66,19 +76,21 @@ Taken e b kind = entriesAsked e ≡ some (record { fields = viewFields b; wanted
 -- this kind, for the same codec number, tables and source.
 abbrev pub MeasuresAlike : Type 0
 MeasuresAlike =
-    (e : List ℤ) (b : RecordBatch) (codec : ℕ) (kind : ControlBatchOrRecords) (t : Tables) (s : List ℕ) (r : Written) (o : Outcome)
-    → Taken e b kind → Batches.MeasurePromise b codec kind t s r → MeasurePromise e (pos codec) t s o → Sizes (viewWritten r) o
+    (mode : ControlMode) (e : List ℤ) (b : RecordBatch) (codec : ℕ) (kind : ControlBatchOrRecords) (t : Tables) (s : List ℕ) (r : Written)
+    (o : Outcome) → Taken e b kind → Batches.MeasurePromise mode b codec kind t s r → MeasurePromise mode e (pos codec) t s o
+    → Sizes (viewWritten r) o
 
 -- So it says what RecordBatch::write answers, and leaves the same output.
 abbrev pub WritesAlike : Type 0
 WritesAlike =
-    (e : List ℤ) (b : RecordBatch) (codec : ℕ) (kind : ControlBatchOrRecords) (t : Tables) (s out : List ℕ)
-    (o : Writing.WriteOutcome) (o′ : WriteOutcome) → Taken e b kind → Batches.WritePromise b codec kind t s out o
-    → WritePromise e (pos codec) t s out o′ → Sizes (viewWritten (o .result)) (o′ .said) × (o′ .output ≡ o .output)
+    (mode : ControlMode) (e : List ℤ) (b : RecordBatch) (codec : ℕ) (kind : ControlBatchOrRecords) (t : Tables) (s out : List ℕ)
+    (o : Writing.WriteOutcome) (o′ : WriteOutcome) → Taken e b kind → Batches.WritePromise mode b codec kind t s out o
+    → WritePromise mode e (pos codec) t s out o′ → Sizes (viewWritten (o .result)) (o′ .said) × (o′ .output ≡ o .output)
 
 -- It says 1 exactly where RecordBatch::is_canonical says true, and else 0.
 abbrev pub CanonicalAlike : Type 0
-CanonicalAlike = (s : List ℕ) (r : Bool) (n : ℕ) → Batches.CanonicalPromise s r → CanonicalPromise s n → n ≡ pick r 1 0
+CanonicalAlike =
+    (mode : ControlMode) (s : List ℕ) (r : Bool) (n : ℕ) → Batches.CanonicalPromise mode s r → CanonicalPromise mode s n → n ≡ pick r 1 0
 
 -- It tells times as RecordBatch::record_time does, of the fields that it is handed.
 abbrev pub TimesAlike : Type 0
@@ -123,31 +135,32 @@ pub record SameInC (e : List ℤ) (c : Content RecordSpans) (source : List ℕ) 
 
 -- what was accepted asks for something, and is read back as that, from its bytes with anything after them, rows enough
 -- being lent
-pub record WrittenInC (e : List ℤ) (t : Tables) (s : List ℕ) (w : WriteOutcome) : Type 0 where
+pub record WrittenInC (mode : ControlMode) (e : List ℤ) (t : Tables) (s : List ℕ) (w : WriteOutcome) : Type 0 where
   pub content : Content RecordSpans
   pub asked : AsksFor e t s content
   pub size : ℕ
   pub answer-is : w .said .answer ≡ pos size ∷ []
-  pub reads : (after : List ℕ) (t′ : Tables) (o : ReadOutcome) → ReadPromise (take size (w .output) ++ after) t′ o → Enough content t′
-      → SameInC e content s size (take size (w .output) ++ after) t′ o
+  pub reads : (after : List ℕ) (t′ : Tables) (o : ReadOutcome) → ReadPromise mode (take size (w .output) ++ after) t′ o
+      → Enough content t′ → SameInC e content s size (take size (w .output) ++ after) t′ o
 
 -- What oddrafisk_write accepts, oddrafisk_read reads back as the same batch.
 abbrev pub ReadsBackInC : Type 0
 ReadsBackInC =
-    (e : List ℤ) (codec : ℤ) (t : Tables) (s out : List ℕ) (w : WriteOutcome) → WritePromise e codec t s out w → w .said .number ≡ 0 → WrittenInC e t s w
+    (mode : ControlMode) (e : List ℤ) (codec : ℤ) (t : Tables) (s out : List ℕ) (w : WriteOutcome) → WritePromise mode e codec t s out w
+    → w .said .number ≡ 0 → WrittenInC mode e t s w
 
 -- what was read is taken again by the writer: it is accepted, where the output is as long as the batch that was read, in
 -- no more bytes than that had
-pub record HandsOn (s : List ℕ) (t : Tables) (o : ReadOutcome) : Type 0 where
+pub record HandsOn (mode : ControlMode) (s : List ℕ) (t : Tables) (o : ReadOutcome) : Type 0 where
   pub consumed : ℕ
   pub size : ℕ
   pub consumed-is : getD (o .said .answer) 13 (pos 0) ≡ pos consumed
   pub within : size ≤ consumed
-  pub measures : (m : Outcome) → MeasurePromise (o .said .answer) (pos 0) (o .tables) s m → m ≡ record { number = 0; answer = pos size ∷ [] }
-  pub writes : (out : List ℕ) (w : WriteOutcome) → WritePromise (o .said .answer) (pos 0) (o .tables) s out w → consumed ≤ length out
+  pub measures : (m : Outcome) → MeasurePromise mode (o .said .answer) (pos 0) (o .tables) s m → m ≡ record { number = 0; answer = pos size ∷ [] }
+  pub writes : (out : List ℕ) (w : WriteOutcome) → WritePromise mode (o .said .answer) (pos 0) (o .tables) s out w → consumed ≤ length out
       → w .said ≡ record { number = 0; answer = pos size ∷ [] }
 
 -- What oddrafisk_read gives of a batch can be handed to oddrafisk_measure and oddrafisk_write as it stands, the tables
 -- with it, and the bytes that were read as the source.
 abbrev pub HandedOn : Type 0
-HandedOn = (s : List ℕ) (t : Tables) (o : ReadOutcome) → ReadPromise s t o → o .said .number ≡ 0 → HandsOn s t o
+HandedOn = (mode : ControlMode) (s : List ℕ) (t : Tables) (o : ReadOutcome) → ReadPromise mode s t o → o .said .number ≡ 0 → HandsOn mode s t o

@@ -5,6 +5,7 @@ use mathlib.Core.List.{List}
 use lib.IntN.{ℤ}
 use Rattle.records.specs.Rows.{Tables}
 use Rattle.writing.specs.Promises.{WriteOutcome, WriteBy}
+use Rattle.layout.specs.declared.ControlMode.{ControlMode}
 use Rattle.batches.specs.Answers.{Answer, viewFields}
 use Rattle.batches.specs.Writer.{Wanted, viewWanted}
 use Rattle.oddrafisk.specs.declared.asked.BatchAsked.{BatchAsked}
@@ -25,6 +26,6 @@ abbrev pub countsOf : ℕ → ℕ → ℕ → Answer
 countsOf n m bytes = record { number = 0; fields = none; kind = none; records = n; headers = m; bytes = bytes }
 
 -- what is written for entries, which are of the machine's types
-pub record WritesFor (e : List ℤ) (codec : ℤ) (t : Tables) (s out : List ℕ) (o : WriteOutcome) : Type 0 where
+pub record WritesFor (mode : ControlMode) (e : List ℤ) (codec : ℤ) (t : Tables) (s out : List ℕ) (o : WriteOutcome) : Type 0 where
   pub handed : Handed e codec s
-  pub by : WriteBy (entriesGiven e codec t s) 0 out o
+  pub by : WriteBy (entriesGiven mode e codec t s) 0 out o

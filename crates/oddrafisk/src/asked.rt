@@ -1,6 +1,7 @@
-// What numbers ask for: the entries of a batch to be written, and the time of a record.
+// What numbers ask for: the form of control batches, the entries of a batch to be written, and the time of a record.
 use batches::ControlBatchOrRecords;
 use batches::RecordBatch;
+use layout::ControlMode;
 use layout::RecordBatchTimestampType;
 use layout::RecordTime;
 use markers::ControlBatchRecord;
@@ -10,9 +11,12 @@ ghost use Rattle.numbers.specs.Format.{inBits};
 ghost use Rattle.layout.specs.Fixed.{viewType};
 ghost use Rattle.layout.specs.Time.{viewTime};
 ghost use Rattle.batches.specs.Answers.{viewFields};
-ghost use Rattle.oddrafisk.specs.Entries.{is0or1, widthsFit, flagsFit, fieldsFit, typeOf, fieldsOf, kindWanted, entriesAsked};
+ghost use Rattle.oddrafisk.specs.Entries.{modeOf, is0or1, widthsFit, flagsFit, fieldsFit, typeOf, fieldsOf, kindWanted, entriesAsked};
 ghost use Rattle.oddrafisk.specs.Promises.{timeFor};
 ghost use Rattle.oddrafisk.specs.Words.{viewAsked, viewKindAsked};
+
+// The number of the keyed mode.
+const KEYED: u32 = 1;
 
 // The entries of a batch. The first ten are its fields, in the order of the bytes; the reader answers by all, and the
 // writer takes all but the headers and the bytes. Those after the bytes are 0.
@@ -54,6 +58,16 @@ pub(crate) enum BatchAsked {
 enum KindAsked {
     Got(ControlBatchOrRecords),
     Wrong,
+}
+
+// Every other number is the bare mode's, so that each has an answer.
+pub(crate) fn mode_of(n: u32) -> ControlMode
+    ensures { λ r. ⌜ r ≡ modeOf n ⌝ }
+{
+    if n == KEYED {
+        return ControlMode::Keyed;
+    }
+    ControlMode::Bare
 }
 
 pub(crate) fn batch_asked(entries: &[i64; 16]) -> BatchAsked

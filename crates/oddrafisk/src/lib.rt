@@ -5,10 +5,12 @@ mod said;
 
 use asked::BatchAsked;
 use asked::batch_asked;
+use asked::mode_of;
 use asked::time_asked;
 use asking::WriteFault;
 use batches::RecordBatch;
 use crc32c::crc32c;
+use layout::ControlMode;
 use layout::RecordTime;
 use said::length_of;
 use said::number_of;
@@ -18,15 +20,16 @@ use writing::Written;
 ghost use mathlib.Core.Path.{_≡_};
 ghost use Rattle.records.specs.Rows.{tables};
 ghost use Rattle.writing.specs.Answers.{viewWritten, measured};
+ghost use Rattle.oddrafisk.specs.Entries.{modeOf};
 ghost use Rattle.oddrafisk.specs.Promises.{CheckPromise, ReadPromise, entriesGiven, MeasurePromise, WritePromise, CanonicalPromise, RecordTimePromise, Crc32cPromise, VersionPromise};
 ghost use Rattle.oddrafisk.specs.Words.{WritesFor};
 
 // What the bytes begin with, by themselves.
 #[no_mangle]
-pub extern "C" fn oddrafisk_check(bytes: &[u8], answer: &mut [i64; 16]) -> u32
-    ensures { λ r. ⌜ CheckPromise (now (bytes .entry)) (record { number = r; answer = now (answer .exit) }) ⌝ }
+pub extern "C" fn oddrafisk_check(mode: u32, bytes: &[u8], answer: &mut [i64; 16]) -> u32
+    ensures { λ r. ⌜ CheckPromise (modeOf mode) (now (bytes .entry)) (record { number = r; answer = now (answer .exit) }) ⌝ }
 {
-    let said = said_of_check(RecordBatch::check(bytes));
+    let said = said_of_check(RecordBatch::check(mode_of(mode), bytes));
     let entries = said.entries;
     *answer = entries;
     said.number
@@ -35,14 +38,15 @@ pub extern "C" fn oddrafisk_check(bytes: &[u8], answer: &mut [i64; 16]) -> u32
 // The same, and the rows of its records and of their headers.
 #[no_mangle]
 pub extern "C" fn oddrafisk_read(
+    mode: u32,
     bytes: &[u8],
     records: &mut [i64],
     headers: &mut [i64],
     answer: &mut [i64; 16],
 ) -> u32
-    ensures { λ r. ⌜ ReadPromise (now (bytes .entry)) (tables (now (records .entry)) (now (headers .entry))) (record { said = record { number = r; answer = now (answer .exit) }; tables = tables (now (records .exit)) (now (headers .exit)) }) ⌝ }
+    ensures { λ r. ⌜ ReadPromise (modeOf mode) (now (bytes .entry)) (tables (now (records .entry)) (now (headers .entry))) (record { said = record { number = r; answer = now (answer .exit) }; tables = tables (now (records .exit)) (now (headers .exit)) }) ⌝ }
 {
-    let said = said_of_read(RecordBatch::read(bytes, records, headers));
+    let said = said_of_read(RecordBatch::read(mode_of(mode), bytes, records, headers));
     let entries = said.entries;
     *answer = entries;
     said.number
@@ -51,6 +55,7 @@ pub extern "C" fn oddrafisk_read(
 // How many bytes a batch has when it is written.
 #[no_mangle]
 pub extern "C" fn oddrafisk_measure(
+    mode: u32,
     batch: &[i64; 16],
     codec: i64,
     records: &[i64],
@@ -58,9 +63,9 @@ pub extern "C" fn oddrafisk_measure(
     source: &[u8],
     answer: &mut [i64; 1],
 ) -> u32
-    ensures { λ r. ⌜ MeasurePromise (now (batch .entry)) codec (tables (now (records .entry)) (now (headers .entry))) (now (source .entry)) (record { number = r; answer = now (answer .exit) }) ⌝ }
+    ensures { λ r. ⌜ MeasurePromise (modeOf mode) (now (batch .entry)) codec (tables (now (records .entry)) (now (headers .entry))) (now (source .entry)) (record { number = r; answer = now (answer .exit) }) ⌝ }
 {
-    let measured = measure_asked(batch, codec, records, headers, source);
+    let measured = measure_asked(mode_of(mode), batch, codec, records, headers, source);
     *answer = [length_of(measured)];
     number_of(measured)
 }
@@ -68,6 +73,7 @@ pub extern "C" fn oddrafisk_measure(
 // Writes a batch to the output's start.
 #[no_mangle]
 pub extern "C" fn oddrafisk_write(
+    mode: u32,
     batch: &[i64; 16],
     codec: i64,
     records: &[i64],
@@ -76,19 +82,27 @@ pub extern "C" fn oddrafisk_write(
     output: &mut [u8],
     answer: &mut [i64; 1],
 ) -> u32
-    ensures { λ r. ⌜ WritePromise (now (batch .entry)) codec (tables (now (records .entry)) (now (headers .entry))) (now (source .entry)) (now (output .entry)) (record { said = record { number = r; answer = now (answer .exit) }; output = now (output .exit) }) ⌝ }
+    ensures { λ r. ⌜ WritePromise (modeOf mode) (now (batch .entry)) codec (tables (now (records .entry)) (now (headers .entry))) (now (source .entry)) (now (output .entry)) (record { said = record { number = r; answer = now (answer .exit) }; output = now (output .exit) }) ⌝ }
 {
-    let written = write_asked(batch, codec, records, headers, source, output);
+    let written = write_asked(
+        mode_of(mode),
+        batch,
+        codec,
+        records,
+        headers,
+        source,
+        output,
+    );
     *answer = [length_of(written)];
     number_of(written)
 }
 
 // Whether the bytes, all of them, are one batch as the writer gives it.
 #[no_mangle]
-pub extern "C" fn oddrafisk_is_canonical(bytes: &[u8]) -> u32
-    ensures { λ r. ⌜ CanonicalPromise (now (bytes .entry)) r ⌝ }
+pub extern "C" fn oddrafisk_is_canonical(mode: u32, bytes: &[u8]) -> u32
+    ensures { λ r. ⌜ CanonicalPromise (modeOf mode) (now (bytes .entry)) r ⌝ }
 {
-    if RecordBatch::is_canonical(bytes) {
+    if RecordBatch::is_canonical(mode_of(mode), bytes) {
         return 1;
     }
     0
@@ -131,28 +145,30 @@ pub extern "C" fn oddrafisk_crc32c(bytes: &[u8]) -> u32
 pub extern "C" fn oddrafisk_version() -> u32
     ensures { λ r. ⌜ VersionPromise r ⌝ }
 {
-    2000
+    3000
 }
 
 fn measure_asked(
+    mode: ControlMode,
     batch: &[i64; 16],
     codec: i64,
     records: &[i64],
     headers: &[i64],
     source: &[u8],
 ) -> Written
-    ensures { λ r. ⌜ viewWritten r ≡ measured (entriesGiven (now (batch .entry)) codec (tables (now (records .entry)) (now (headers .entry))) (now (source .entry))) ⌝ }
+    ensures { λ r. ⌜ viewWritten r ≡ measured (entriesGiven mode (now (batch .entry)) codec (tables (now (records .entry)) (now (headers .entry))) (now (source .entry))) ⌝ }
 {
     if codec != 0 {
         return Written::Refused(WriteFault::Codec);
     }
     match batch_asked(batch) {
-        BatchAsked::Got { batch, kind } => batch.measure(0, kind, records, headers, source),
+        BatchAsked::Got { batch, kind } => batch.measure(mode, 0, kind, records, headers, source),
         BatchAsked::Wrong => Written::Refused(WriteFault::Row),
     }
 }
 
 fn write_asked(
+    mode: ControlMode,
     batch: &[i64; 16],
     codec: i64,
     records: &[i64],
@@ -160,14 +176,14 @@ fn write_asked(
     source: &[u8],
     output: &mut [u8],
 ) -> Written
-    ensures { λ r. ⌜ WritesFor (now (batch .entry)) codec (tables (now (records .entry)) (now (headers .entry))) (now (source .entry)) (now (output .entry)) (record { result = r; output = now (output .exit) }) ⌝ }
+    ensures { λ r. ⌜ WritesFor mode (now (batch .entry)) codec (tables (now (records .entry)) (now (headers .entry))) (now (source .entry)) (now (output .entry)) (record { result = r; output = now (output .exit) }) ⌝ }
 {
     if codec != 0 {
         return Written::Refused(WriteFault::Codec);
     }
     match batch_asked(batch) {
         BatchAsked::Got { batch, kind } => {
-            batch.write(0, kind, records, headers, source, output)
+            batch.write(mode, 0, kind, records, headers, source, output)
         }
         BatchAsked::Wrong => Written::Refused(WriteFault::Row),
     }

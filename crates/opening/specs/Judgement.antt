@@ -2,15 +2,17 @@
 -- its numbers, the first fault first.
 use Prim.Native.Nat.{ℕ, zero, suc, _+_, _-_, _*_, _/_, _%_, _^_}
 use mathlib.Core.Bool.{Bool, true, false}
+use mathlib.Core.Option.{Option, none, some}
 use mathlib.Core.List.{List}
 use lib.Dec.{eqb, ltb}
 use lib.IntN.{ℤ, pos, negsuc}
 use lib.ListN.{length, take, drop}
 use Rattle.numbers.specs.Pick.{pick}
 use Rattle.primitives.specs.Step.{Step, ok, no, andThen, mapStep}
-use Rattle.primitives.specs.Reading.{big, signedBy, integerAt}
+use Rattle.primitives.specs.Reading.{big, signedBy, integerAt, Span}
 use Rattle.crc32c.specs.Crc.{crc32c}
-use Rattle.records.specs.Judgement.{RecordSpans, recordsAt}
+use Rattle.records.specs.Judgement.{RecordSpans, recordAt, recordsAt}
+use Rattle.layout.specs.declared.ControlMode.{ControlMode}
 use Rattle.layout.specs.Table.{Slot, table, uncounted, unchecked, fixedPart}
 use Rattle.layout.specs.Batch.{TimestampType, createTime, logAppendTime, Fields, Marker, abort, commit, Content, control, records}
 
@@ -174,8 +176,26 @@ bareMarkerAt s at =
     andThen (integerAt 2 s at) (λ version p.
     pick (is 0 version) (andThen (andThen (integerAt 2 s p) markerOf) (endedAt s)) (no 12))
 
-abbrev pub judgeAt : List ℕ → ℕ → ℕ → Judgement
-judgeAt s at first = judgeWith bareMarkerAt s at first
+-- a marker that ends at the place p
+abbrev pub asOf : ℕ → Marker → ℕ → Step ℕ Marker
+asOf p m _ = ok m p
 
-abbrev pub judge : List ℕ → Judgement
-judge s = judgeAt s 0 0
+-- what the first four bytes of a key are, as a bare marker: 12 where they are not all there
+abbrev pub markerInKey : List ℕ → Option Span → ℕ → Step ℕ Marker
+markerInKey s none p = no 12
+markerInKey s (some k) p = pick (ltb (k .len) 4) (no 12) (andThen (bareMarkerAt (take (k .start + 4) s) (k .start)) (asOf p))
+
+-- Kafka, message format, control batch: one record, whose key begins with the marker. The key is looked at when all
+-- else has been judged.
+unfoldable pub keyedMarkerAt : Control
+keyedMarkerAt s at = andThen (recordAt s at) (λ r p. pick (ltb p (length s)) (no 13) (markerInKey s (r .key) p))
+
+unfoldable pub wayOf : ControlMode → Control
+wayOf ControlMode.Bare = bareMarkerAt
+wayOf ControlMode.Keyed = keyedMarkerAt
+
+abbrev pub judgeAt : ControlMode → List ℕ → ℕ → ℕ → Judgement
+judgeAt mode s at first = judgeWith (wayOf mode) s at first
+
+abbrev pub judge : ControlMode → List ℕ → Judgement
+judge mode s = judgeAt mode s 0 0

@@ -2,16 +2,21 @@
 -- stands in proofs/ under the statement's name in small letters: `judged-by-opening : JudgedByOpening`.
 use Prim.Native.Nat.{ℕ, _+_, _≤_}
 use mathlib.Core.Path.{_≡_}
-use mathlib.Core.List.{List}
+use mathlib.Core.List.{List, _++_}
 use lib.ListN.{length}
 use Rattle.numbers.specs.Bytes.{Bytes}
 use Rattle.numbers.specs.Exactly.{Exactly}
 use Rattle.primitives.specs.Step.{no}
 use Rattle.primitives.specs.Faults.{Wrong}
+use Rattle.primitives.specs.Shifted.{movedStep}
 use Rattle.layout.specs.Table.{fixedPart}
 use Rattle.opening.specs.Judgement.{accepted, openedAt, Control, judgeWith, bareMarkerAt}
 use Rattle.opening.specs.Faults.{FixedWrong, BareMarkerWrong}
 use Rattle.opening.specs.Opened.{KnownAt, openAt, judgedFrom}
+
+-- a way of reading control batches to which the place is nothing but where it reads
+abbrev pub Placeless : Control → Type 0
+Placeless way = (front s : List ℕ) (p : ℕ) → way (front ++ s) (length front + p) ≡ movedStep (λ m. m) (length front) (way s p)
 
 -- The judgement is what is known before the marker or the records, and then what these say.
 abbrev pub JudgedByOpening : Type 0

@@ -2,6 +2,7 @@
 // the server that the cookie is pinned to; a null value withdraws the pinning.
 use batches::ControlBatchOrRecords;
 use batches::RecordBatch;
+use layout::ControlMode;
 use layout::RecordBatchTimestampType;
 use libc::STDOUT_FILENO;
 use markers::ControlBatchRecord;
@@ -244,7 +245,8 @@ fn print(
     let mut output = io::buffer();
     let all = &records[..];
     let from = ROW * first;
-    let written = batch.write(0, kind, &all[from..], headers, &SOURCE, &mut output);
+    let bare = ControlMode::Bare;
+    let written = batch.write(bare, 0, kind, &all[from..], headers, &SOURCE, &mut output);
     match written {
         Written::Bytes(n) => {
             io::write_all(STDOUT_FILENO, &output[..n]);

@@ -22,14 +22,14 @@ abbrev Perhaps : Option (List ℕ) → Type 0
 Perhaps none = Unit {0}
 Perhaps (some v) = Bytes v
 
-record HeaderOfBytes (h : Header) : Type 0 where
+pub record HeaderOfBytes (h : Header) : Type 0 where
   key : Bytes (h .key)
   value : Bytes (h .value)
 
 pub record OfBytes (r : Record) : Type 0 where
-  key : Perhaps (r .key)
-  value : Perhaps (r .value)
-  headers : Each HeaderOfBytes (r .headers)
+  pub key : Perhaps (r .key)
+  pub value : Perhaps (r .value)
+  pub headers : Each HeaderOfBytes (r .headers)
 
 -- ---- its encodings
 
@@ -62,7 +62,7 @@ fields-bytes strict bs r g b =
     (joined-bytes (g .value) fromCount (nullable-bytes strict (g .value) (r .value) (g .valued) (b .value))
     (joined-bytes (g .count) (g .headers) (varies-bytes (g .counted)) (run-bytes (header-bytes strict) (g .headed) (b .headers))))))))
 
-record-bytes : (strict : Bool) (bs : List ℕ) (r : Record) → RecordBytes strict bs r → OfBytes r → Bytes bs
+pub record-bytes : (strict : Bool) (bs : List ℕ) (r : Record) → RecordBytes strict bs r → OfBytes r → Bytes bs
 record-bytes strict bs r g b = sized-bytes (g .sized) (fields-bytes strict (g .fields) r (g .holds) b)
 
 pub records-bytes : {strict : Bool} {bs : List ℕ} {rs : List Record} → RecordsBytes strict bs rs → Each OfBytes rs → Bytes bs

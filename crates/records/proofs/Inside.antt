@@ -61,7 +61,7 @@ header-inside {h = h} x g =
       value = bytes-inside (h .value) (value-stands x g) (g .valued);
     }
 
-record-inside : {strict : Bool} {s : List ℕ} {p q : ℕ} {bs : List ℕ} {r : Record} → Stands s p q bs → (g : RecordBytes strict bs r)
+pub record-inside : {strict : Bool} {s : List ℕ} {p q : ℕ} {bs : List ℕ} {r : Record} → Stands s p q bs → (g : RecordBytes strict bs r)
     → RecordInside s (placedRecord p g)
 record-inside {strict} {s} {r = r} x g =
     let f = g .holds in

@@ -2,6 +2,7 @@ pub mod AllBytes
 pub mod Complete
 pub mod Encodes
 pub mod Ends
+pub mod FaultNumbers
 mod FieldSteps
 mod Found
 pub mod HeaderFaults
@@ -9,6 +10,7 @@ pub mod Held
 pub mod Inside
 mod Judges
 pub mod KeyFaults
+pub mod Keys
 pub mod Nth
 pub mod Parts
 mod Presence

@@ -1,10 +1,11 @@
 -- How far reading records moves: each field takes at least a byte, and ends within the list. So the bytes bound the
 -- counts. Assumes nothing.
 use Prim.Native.Nat.{ℕ, _+_, _*_, _≤_, _<_}
-use mathlib.Core.Path.{_≡_}
+use mathlib.Core.Path.{_≡_, sym, _∙_}
 use mathlib.Core.Bool.{true, false}
 use mathlib.Core.List.{List}
 use native.Mathlib.Omega.{arith}
+use borrow.Author.Tests.{eqb-true}
 use lib.Dec.{eqb}
 use lib.ListN.{length, take, length-take}
 use Rattle.primitives.specs.Step.{ok, times}
@@ -81,13 +82,21 @@ deltas-move s p e =
     let (c, r) = varint-moves 32 s n was″ in
     (omega arith, r)
 
-head-moves : (s : List ℕ) (p : ℕ) {h : Head} {q : ℕ} → headAt s p ≡ ok h q → (p + 6 ≤ q) × (q ≤ length s)
+-- what stands before the headers, part by part
+pub head-parts : (s : List ℕ) (p : ℕ) {h : Head} {q : ℕ} → headAt s p ≡ ok h q
+    → (m : ℕ) × (n : ℕ) × (o : ℕ) × (deltasAt s p ≡ ok (h .deltas) m) × (spanAt true s m ≡ ok (h .key) n)
+    × (spanAt true s n ≡ ok (h .value) o) × (countAt s o ≡ ok (h .count) q)
 unfolding headAt
-head-moves s p e =
+head-parts s p e =
     let (d, m, was, e′) = and-then-ok (deltasAt s p) _ e in
     let (k, n, was′, e″) = and-then-ok (spanAt true s m) _ e′ in
     let (v, o, was″, e‴) = and-then-ok (spanAt true s n) _ e″ in
-    let (_, was‴, _) = map-ok _ (countAt s o) e‴ in
+    let (_, was‴, w) = map-ok _ (countAt s o) e‴ in
+    rw (← w) (m, n, o, was, was′, was″, was‴)
+
+head-moves : (s : List ℕ) (p : ℕ) {h : Head} {q : ℕ} → headAt s p ≡ ok h q → (p + 6 ≤ q) × (q ≤ length s)
+head-moves s p e =
+    let (m, n, o, was, was′, was″, was‴) = head-parts s p e in
     let (a, _) = deltas-move s p was in
     let (b, _) = span-moves true s m was′ in
     let (c, _) = span-moves true s n was″ in
@@ -104,14 +113,20 @@ fields-move s p e =
     let (n, b, r) = headers-move s (h .count) m was′ l in
     rw (← w) (omega arith, r)
 
-pub record-moves : (s : List ℕ) (p : ℕ) {r : RecordSpans} {q : ℕ} → recordAt s p ≡ ok r q
-    → (p + 7 + 2 * length (r .headers) ≤ q) × (q ≤ length s)
+-- a record that is read is its length, and its fields up to the end that this names
+pub record-parts : (s : List ℕ) (p : ℕ) {r : RecordSpans} {q : ℕ} → recordAt s p ≡ ok r q
+    → (n : ℕ) × (m : ℕ) × (countAt s p ≡ ok n m) × (fieldsAt (take (m + n) s) m ≡ ok r q) × (q ≡ m + n)
 unfolding recordAt
-record-moves s p {r} {q} e =
+record-parts s p e =
     let (n, m, was, e′) = and-then-ok (countAt s p) _ e in
     let (r′, o, was′, e″) = and-then-ok (fieldsAt (take (m + n) s) m) _ e′ in
-    let (_, v, w) = pick-ok (eqb o (m + n)) r′ o 13 e″ in
-    let is : fieldsAt (take (m + n) s) m ≡ ok r q = cc in
+    let (t, v, w) = pick-ok (eqb o (m + n)) r′ o 13 e″ in
+    (n, m, was, cc, sym w ∙ eqb-true o (m + n) t)
+
+pub record-moves : (s : List ℕ) (p : ℕ) {r : RecordSpans} {q : ℕ} → recordAt s p ≡ ok r q
+    → (p + 7 + 2 * length (r .headers) ≤ q) × (q ≤ length s)
+record-moves s p e =
+    let (n, m, was, is, _) = record-parts s p e in
     let (a, _) = count-moves s p was in
     let (b, l) = fields-move (take (m + n) s) m is in
     (omega arith, omega (arith, length-take (m + n) s))

@@ -117,7 +117,7 @@ fields-refuses s p =
     and-then-refuses (headAt s p) _ (head-refuses s p)
     (λ h m. map-refuses _ (times (headerAt s) (h .count) m) (times-refuses (headerAt s) (header-refuses s) (h .count) m))
 
-record-refuses : (s : List ℕ) (p : ℕ) → Refuses (recordAt s p)
+pub record-refuses : (s : List ℕ) (p : ℕ) → Refuses (recordAt s p)
 unfolding recordAt
 record-refuses s p =
     and-then-refuses (countAt s p) _ (count-refuses s p) (λ n m.

@@ -53,7 +53,7 @@ fields-shifted : Shifted movedRecord fieldsAt
 unfolding fieldsAt
 fields-shifted front s p = simp (head-shifted, times-shifted movedHeader headerAt header-shifted, moved)
 
-record-shifted : Shifted movedRecord recordAt
+pub record-shifted : Shifted movedRecord recordAt
 unfolding recordAt
 record-shifted front s p = simp (count-shifted, add-assoc, take-append-add, fields-shifted, eqb-add, moved)
 

@@ -11,7 +11,7 @@ use lib.ListN.{length, length-append}
 use Rattle.numbers.specs.Format.{zigzag, Varies, Sized, Nullable}
 use Rattle.numbers.proofs.Shortest.{groups-length}
 use Rattle.numbers.proofs.Integers.{integer-length}
-use Rattle.records.specs.Format.{Record, Run, FieldsBytes, RecordsBytes}
+use Rattle.records.specs.Format.{Record, Run, FieldsBytes, RecordBytes, RecordsBytes}
 use Rattle.records.specs.Statements.{sizes, total, SizesAddUp, HeaderLeast, RecordLeast}
 use Rattle.records.proofs.Sound.{records-sound}
 
@@ -32,10 +32,16 @@ sizes-add-up s count p rs q b e =
 varies-least : {w : ℕ} {strict : Bool} {bs : List ℕ} {n : ℤ} → Varies w strict bs n → 1 ≤ length bs
 varies-least {n = n} g = rw (g .is, groups-length (g .more) (zigzag n)) (omega arith)
 
-sized-least : {strict : Bool} {bs v : List ℕ} → Sized strict bs v → 1 ≤ length bs
+sized-least : {strict : Bool} {bs v : List ℕ} → Sized strict bs v → 1 + length v ≤ length bs
 sized-least {v = v} g = rw (g .is, length-append (g .size) v) (omega (arith, varies-least (g .sizes)))
 
-nullable-least : (strict : Bool) (bs : List ℕ) (v : Option (List ℕ)) → Nullable true strict bs v → 1 ≤ length bs
+-- how many bytes follow a length
+abbrev following : Option (List ℕ) → ℕ
+following none = 0
+following (some v) = length v
+
+nullable-least : (strict : Bool) (bs : List ℕ) (v : Option (List ℕ)) → Nullable true strict bs v
+    → 1 + following v ≤ length bs
 nullable-least strict bs none g = varies-least (g .1)
 nullable-least strict bs (some v) g = sized-least g
 
@@ -48,7 +54,8 @@ pub header-least : HeaderLeast
 header-least strict bs h g =
     rw (g .is, length-append (g .key) (g .value)) (omega (arith, sized-least (g .keyed), sized-least (g .valued)))
 
-fields-least : {strict : Bool} {bs : List ℕ} {r : Record} → FieldsBytes strict bs r → 6 + 2 * length (r .headers) ≤ length bs
+fields-least : {strict : Bool} {bs : List ℕ} {r : Record} → FieldsBytes strict bs r
+    → 6 + following (r .key) + 2 * length (r .headers) ≤ length bs
 fields-least {strict} {r = r} g =
     rw (g .is) (simp length-append (omega (
       arith,
@@ -61,7 +68,16 @@ fields-least {strict} {r = r} g =
       run-least 2 (header-least strict) (g .headed),
     )))
 
-pub record-least : RecordLeast
-record-least strict bs r g =
+with-key : {strict : Bool} {bs : List ℕ} {r : Record} → RecordBytes strict bs r
+    → 7 + following (r .key) + 2 * length (r .headers) ≤ length bs
+with-key g =
     rw (g .sized .is, length-append (g .sized .size) (g .fields))
     (omega (arith, varies-least (g .sized .sizes), fields-least (g .holds)))
+
+pub record-least : RecordLeast
+record-least strict bs r g = omega (arith, with-key g)
+
+-- a record with a key is longer by it
+pub keyed-record-least : {strict : Bool} {bs : List ℕ} {r : Record} {v : List ℕ} → RecordBytes strict bs r
+    → r .key ≡ some v → 7 + length v ≤ length bs
+keyed-record-least g e = omega (arith, with-key g, ap following e)

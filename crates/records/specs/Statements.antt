@@ -246,3 +246,13 @@ RecordFaults = (s : List ℕ) (p n : ℕ) → Bytes s → p ≤ length s → Exa
 abbrev pub FirstFaults : Type 0
 FirstFaults =
     (s : List ℕ) (count p n : ℕ) → Bytes s → p ≤ length s → Exactly (recordsAt s count p ≡ no n) (RecordsWrong count s p n)
+
+-- The number of such a fault is one of 8 to 11, or 13: it is never 12, which only a control batch's marker has.
+abbrev pub RecordFaultNumber : ℕ → Type 0
+RecordFaultNumber n = (8 ≤ n) × (n ≤ 13) × (n ≡ 12 → ⊥)
+
+abbrev pub RecordFaultNumbers : Type 0
+RecordFaultNumbers = (s : List ℕ) (p n : ℕ) → RecordWrong s p n → RecordFaultNumber n
+
+abbrev pub FirstFaultNumbers : Type 0
+FirstFaultNumbers = (s : List ℕ) (count p n : ℕ) → RecordsWrong count s p n → RecordFaultNumber n

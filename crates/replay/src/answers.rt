@@ -8,6 +8,7 @@ use crate::text::within;
 use batches::BatchRead;
 use batches::ControlBatchOrRecords;
 use batches::RecordBatch;
+use layout::ControlMode;
 use layout::RecordBatchTimestampType;
 use libc::STDOUT_FILENO;
 use markers::ControlBatchRecord;
@@ -21,7 +22,7 @@ ghost use lib.ListN.{length};
 pub fn answer(bytes: &[u8]) {
     let mut records = [0i64; 8192];
     let mut headers = [0i64; 8192];
-    match RecordBatch::read(bytes, &mut records, &mut headers) {
+    match RecordBatch::read(ControlMode::Bare, bytes, &mut records, &mut headers) {
         BatchRead::Accepted {
             batch,
             kind,
@@ -47,7 +48,7 @@ fn print_accepted(
     print_fields(batch, consumed);
     print_content(kind, bytes, records, headers);
     print_written(batch, kind, bytes, records, headers);
-    if RecordBatch::is_canonical(bytes) {
+    if RecordBatch::is_canonical(ControlMode::Bare, bytes) {
         print(b"canonical yes\n");
         return;
     }
@@ -141,7 +142,8 @@ fn print_written(
     headers: &[i64],
 ) {
     let mut output = io::large_buffer();
-    match batch.write(0, kind, records, headers, source, &mut output) {
+    let bare = ControlMode::Bare;
+    match batch.write(bare, 0, kind, records, headers, source, &mut output) {
         Written::Bytes(n) => {
             print(b"written ");
             print_hexadecimal(&output[..n]);

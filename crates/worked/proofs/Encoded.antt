@@ -17,12 +17,14 @@ use Rattle.primitives.specs.Stands.{Encoding}
 use Rattle.examples.specs.Examples.{Example}
 use Rattle.records.specs.Format.{Record}
 use Rattle.records.specs.Statements.{Each}
+use Rattle.layout.specs.declared.ControlMode.{ControlMode}
 use Rattle.layout.specs.Batch.{Batch}
 use Rattle.layout.specs.Format.{BatchBytes}
 use Rattle.layout.specs.Worked.{exampleBatch}
 use Rattle.opening.specs.Judgement.{more, refused, accepted, Judgement, judge}
 use Rattle.batches.specs.Placed.{shownBatch}
 use Rattle.batches.proofs.Sound.{sound}
+use Rattle.worked.specs.Worked.{EncodedAs}
 
 -- ---- whether all are bytes
 
@@ -60,28 +62,29 @@ toldOf s (accepted b) = told (shownBatch s b) (b .consumed) (allBytes s)
 untold-not : {x : Batch Record} {n : ℕ} {t : Bool} → untold ≡ told x n t → ⊥
 untold-not g = let z : _≡_ {A = ℕ} 0 1 = cc in omega arith
 
-told-encodes : (s : List ℕ) (x : Batch Record) (j : Judgement) → judge s ≡ j → toldOf s j ≡ told x (length s) true → BatchBytes false s x
-told-encodes s x (more n) e f = absurd (untold-not f)
-told-encodes s x (refused n) e f = absurd (untold-not f)
-told-encodes s x (accepted b) e f =
+told-encodes : (mode : ControlMode) (s : List ℕ) (x : Batch Record) (j : Judgement) → judge mode s ≡ j
+    → toldOf s j ≡ told x (length s) true → BatchBytes mode false s x
+told-encodes mode s x (more n) e f = absurd (untold-not f)
+told-encodes mode s x (refused n) e f = absurd (untold-not f)
+told-encodes mode s x (accepted b) e f =
     let shows : shownBatch s b ≡ x = cc in
     let ends : b .consumed ≡ length s = cc in
     let bytes : allBytes s ≡ true = cc in
-    let there = sound s 0 0 b (all-bytes s bytes) e .0 in
-    rw (← shows) (whole (BatchBytes false) s (0 + b .consumed) (shownBatch s b) (zero-add (b .consumed) ∙ ends) there)
+    let there = sound mode s 0 0 b (all-bytes s bytes) e .0 in
+    rw (← shows) (whole (BatchBytes mode false) s (0 + b .consumed) (shownBatch s b) (zero-add (b .consumed) ∙ ends) there)
 
 -- ---- each of some batches
 
-abbrev pub toldIn : Example → Told
-toldIn e = toldOf (e .bytes) (judge (e .bytes))
+abbrev pub toldIn : ControlMode → Example → Told
+toldIn mode e = toldOf (e .bytes) (judge mode (e .bytes))
 
 abbrev pub toldDue : Example → Told
 toldDue e = told (exampleBatch e) (length (e .bytes)) true
 
-pub each-encodes : (es : List Example) → map toldIn es ≡ map toldDue es → Each (λ (e : Example). BatchBytes false (e .bytes) (exampleBatch e)) es
+pub each-encodes : (mode : ControlMode) (es : List Example) → map (toldIn mode) es ≡ map toldDue es → EncodedAs mode es
 unfolding Each
-each-encodes [] h = tt
-each-encodes (e ∷ rest) h =
-    let first : toldIn e ≡ toldDue e = cc in
-    let others : map toldIn rest ≡ map toldDue rest = cc in
-    (told-encodes (e .bytes) (exampleBatch e) (judge (e .bytes)) refl first, each-encodes rest others)
+each-encodes mode [] h = tt
+each-encodes mode (e ∷ rest) h =
+    let first : toldIn mode e ≡ toldDue e = cc in
+    let others : map (toldIn mode) rest ≡ map toldDue rest = cc in
+    (told-encodes mode (e .bytes) (exampleBatch e) (judge mode (e .bytes)) refl first, each-encodes mode rest others)

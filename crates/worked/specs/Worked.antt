@@ -1,6 +1,6 @@
--- The worked batches (crates/examples) from end to end: what is read in their bytes, filled in, told, and written again.
--- Each layer has the same of its own definitions in its own Worked.antt. What proves each stands in proofs/ under the
--- statement's name in small letters: `read-right : ReadRight`.
+-- The worked batches (crates/examples) from end to end: what is read in their bytes, filled in, told, and written again;
+-- and those of keyed mode (Keyed.antt). Each layer has the same of its own definitions in its own Worked.antt. What
+-- proves each stands in proofs/ under the statement's name in small letters: `read-right : ReadRight`.
 use Prim.Native.Nat.{ℕ, zero, suc, _+_, _-_}
 use mathlib.Core.Path.{_≡_}
 use mathlib.Core.Bool.{false}
@@ -8,11 +8,12 @@ use mathlib.Core.Option.{Option}
 use mathlib.Core.List.{List, [], _∷_, _++_, map}
 use lib.IntN.{ℤ, pos}
 use lib.ListN.{length, replicate}
-use Rattle.examples.specs.Examples.{Example, headedExamples, examples, Refusal, refusals, RowRefusal, rowRefusals}
+use Rattle.examples.specs.Examples.{Example, headedExamples, markerExamples, examples, Refusal, refusals, RowRefusal, rowRefusals}
 use Rattle.records.specs.Judgement.{RecordSpans}
 use Rattle.records.specs.Rows.{Tables, tables}
 use Rattle.records.specs.Statements.{Each}
 use Rattle.records.specs.Worked.{exampleRecords, exampleHeaders}
+use Rattle.layout.specs.declared.ControlMode.{ControlMode}
 use Rattle.layout.specs.Batch.{Fields, Content, control, records}
 use Rattle.layout.specs.Format.{BatchBytes}
 use Rattle.layout.specs.Time.{recordTime}
@@ -25,6 +26,7 @@ use Rattle.listing.specs.Worked.{WorkedLines, WorkedLongest}
 use Rattle.oddrafisk.specs.Entries.{entriesOf}
 use Rattle.oddrafisk.specs.Promises.{entriesGiven}
 use Rattle.oddrafisk.specs.Worked.{exampleAnswer, exampleWanted}
+use Rattle.worked.specs.Keyed.{keyedExamples}
 
 -- ---- reading
 
@@ -52,21 +54,28 @@ pub record Outcome : Type 0 where
   pub entries : List ℤ
   pub times : List (Option ℤ)
 
-abbrev readWith : List ℕ → Tables → Outcome
-readWith s t =
+abbrev readWith : ControlMode → List ℕ → Tables → Outcome
+readWith mode s t =
     record {
-      answer = answerOf (judge s) (roomsOf t);
-      tables = tablesOf (judge s) t;
-      entries = entriesOf (answerOf (judge s) (roomsOf t));
-      times = timesIn (judge s);
+      answer = answerOf (judge mode s) (roomsOf t);
+      tables = tablesOf (judge mode s) t;
+      entries = entriesOf (answerOf (judge mode s) (roomsOf t));
+      times = timesIn (judge mode s);
     }
 
 abbrev dueFor : Example → Outcome
 dueFor e = record { answer = exampleAnswer e; tables = filledFor e; entries = e .entries; times = e .times }
 
+abbrev ReadAs : ControlMode → List Example → Type 0
+ReadAs mode es = map (λ (e : Example). readWith mode (e .bytes) (lentFor e)) es ≡ map dueFor es
+
 -- Each worked batch is read as what is given with it.
 abbrev pub ReadRight : Type 0
-ReadRight = map (λ (e : Example). readWith (e .bytes) (lentFor e)) examples ≡ map dueFor examples
+ReadRight = ReadAs ControlMode.Bare examples
+
+-- So is each of keyed mode.
+abbrev pub ReadKeyed : Type 0
+ReadKeyed = ReadAs ControlMode.Keyed keyedExamples
 
 -- tables with some numbers in them
 abbrev lentAnyway : Tables
@@ -87,7 +96,17 @@ dueRefusal e =
 
 -- What is no batch is refused by the number that is given with it, and both tables are as they were.
 abbrev pub ReadRefused : Type 0
-ReadRefused = map (λ (e : Refusal). readWith (e .bytes) lentAnyway) refusals ≡ map dueRefusal refusals
+ReadRefused = map (λ (e : Refusal). readWith ControlMode.Bare (e .bytes) lentAnyway) refusals ≡ map dueRefusal refusals
+
+abbrev refusedBy : ℕ → Example → Outcome
+refusedBy number e = dueRefusal (record { bytes = e .bytes; count = 0; number = number; needed = 0 })
+
+-- No worked control batch of one mode is one of the other: alone a record's bytes are an unknown marker, and a marker is
+-- a record of no bytes.
+abbrev pub ReadApart : Type 0
+ReadApart =
+    (map (λ (e : Example). readWith ControlMode.Bare (e .bytes) lentAnyway) keyedExamples ≡ map (refusedBy 12) keyedExamples)
+    × (map (λ (e : Example). readWith ControlMode.Keyed (e .bytes) lentAnyway) markerExamples ≡ map (refusedBy 8) markerExamples)
 
 -- one number fewer than the rows need
 abbrev recordsShort : Example → Tables
@@ -104,21 +123,28 @@ shortOf lent e =
 -- Where either table is a number short of the rows, the answer is 14 with both counts.
 abbrev pub ReadShort : Type 0
 ReadShort =
-    (map (λ (e : Example). readWith (e .bytes) (recordsShort e)) headedExamples ≡ map (shortOf recordsShort) headedExamples)
-    × (map (λ (e : Example). readWith (e .bytes) (headersShort e)) headedExamples ≡ map (shortOf headersShort) headedExamples)
+    (map (λ (e : Example). readWith ControlMode.Bare (e .bytes) (recordsShort e)) headedExamples ≡ map (shortOf recordsShort) headedExamples)
+    × (map (λ (e : Example). readWith ControlMode.Bare (e .bytes) (headersShort e)) headedExamples ≡ map (shortOf headersShort) headedExamples)
 
 -- ---- writing
 
+abbrev WrittenAs : ControlMode → List Example → Type 0
+WrittenAs mode es =
+    (map (λ (e : Example). batchGiven mode (exampleFields e) 0 (exampleWanted (e .holds)) (filledFor e) (e .bytes)) es
+    ≡ map (λ (e : Example). given (e .written)) es)
+    × (map (λ (e : Example). entriesGiven mode (e .entries) (pos 0) (filledFor e) (e .bytes)) es
+    ≡ map (λ (e : Example). given (e .written)) es)
+
 -- What is read of each worked batch asks for the bytes that are given with it, and so do its entries.
 abbrev pub WrittenRight : Type 0
-WrittenRight =
-    (map (λ (e : Example). batchGiven (exampleFields e) 0 (exampleWanted (e .holds)) (filledFor e) (e .bytes)) examples
-    ≡ map (λ (e : Example). given (e .written)) examples)
-    × (map (λ (e : Example). entriesGiven (e .entries) (pos 0) (filledFor e) (e .bytes)) examples
-    ≡ map (λ (e : Example). given (e .written)) examples)
+WrittenRight = WrittenAs ControlMode.Bare examples
+
+-- So it is of each of keyed mode.
+abbrev pub WrittenKeyed : Type 0
+WrittenKeyed = WrittenAs ControlMode.Keyed keyedExamples
 
 abbrev askedFor : Fields → ℕ → RowRefusal → Given
-askedFor x codec e = batchGiven x codec (rows (e .count)) (tables (e .recordRows) (e .headerRows)) (e .source)
+askedFor x codec e = batchGiven ControlMode.Bare x codec (rows (e .count)) (tables (e .recordRows) (e .headerRows)) (e .source)
 
 -- Whatever the fields, wrong rows are refused by the number that is given with them, and by 20 where the codec is 1.
 abbrev pub WrittenRefused : Type 0
@@ -128,18 +154,29 @@ WrittenRefused =
 
 -- ---- the format
 
+abbrev pub EncodedAs : ControlMode → List Example → Type 0
+EncodedAs mode es = Each (λ (e : Example). BatchBytes mode false (e .bytes) (exampleBatch e)) es
+
 -- By the format alone the bytes of each worked batch are an encoding of what is given with it.
 abbrev pub Encoded : Type 0
-Encoded = Each (λ (e : Example). BatchBytes false (e .bytes) (exampleBatch e)) examples
+Encoded = EncodedAs ControlMode.Bare examples
+
+-- So are those of each of keyed mode.
+abbrev pub EncodedKeyed : Type 0
+EncodedKeyed = EncodedAs ControlMode.Keyed keyedExamples
 
 -- ---- all of it
 
 pub record Worked : Type 0 where
   pub read : ReadRight
+  pub readKeyed : ReadKeyed
   pub readRefused : ReadRefused
+  pub readApart : ReadApart
   pub readShort : ReadShort
   pub written : WrittenRight
+  pub writtenKeyed : WrittenKeyed
   pub writtenRefused : WrittenRefused
   pub encoded : Encoded
+  pub encodedKeyed : EncodedKeyed
   pub lines : WorkedLines
   pub longest : WorkedLongest

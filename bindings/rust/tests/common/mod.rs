@@ -23,7 +23,13 @@ pub fn one_record() -> Vec<u8> {
     batch_with_body(0, 1, &[0x0E, 0, 0, 0, 1, 2, 0x41, 0])
 }
 
-/// A control batch of this type.
+/// A control batch of this type, in the bare form.
 pub fn marker(control_type: u8) -> Vec<u8> {
     batch_with_body(0x20, 1, &[0, 0, 0, control_type])
+}
+
+/// The same in the keyed form.
+#[allow(dead_code)]
+pub fn keyed_marker(control_type: u8) -> Vec<u8> {
+    batch_with_body(0x20, 1, &[0x14, 0, 0, 0, 8, 0, 0, 0, control_type, 1, 0])
 }

@@ -1,13 +1,24 @@
-//! A model of document 01, written from its text and sharing nothing with the library: every number,
-//! place and rule stands here once more. It is slow and plain on purpose.
+//! A model of document 01, and of C-16 in document 02, written from their texts and sharing nothing
+//! with the library: every number, place and rule stands here once more. It is slow and plain on
+//! purpose.
 
 pub mod reading;
 pub mod writing;
+
+/// Which form the marker of a control batch has.
+#[derive(Clone, Copy, Debug, PartialEq)]
+pub enum Mode {
+    /// Document 01's: version and type alone.
+    Bare,
+    /// Document 02's, C-16: one record, whose key begins with version and type.
+    Keyed,
+}
 
 /// What the C interface says of a batch: bindings/c/oddrafisk.h names the places.
 pub type Entries = [i64; 16];
 
 /// The places that are looked at one by one.
+pub const KIND: usize = 10;
 pub const RECORDS: usize = 11;
 pub const HEADERS: usize = 12;
 pub const BYTES: usize = 13;

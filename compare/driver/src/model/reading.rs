@@ -1,10 +1,10 @@
-//! Reading by document 01: of every byte string the number with its values, every row, and whether
-//! it lies in the domain on which the Rust is compared.
+//! Reading by document 01, and in keyed mode by C-16: of every byte string the number with its
+//! values, every row, and whether it lies in the domain on which the Rust is compared.
 
 use super::*;
 
-/// What document 01 answers where rows enough are lent.
-#[derive(Default)]
+/// What is answered where rows enough are lent.
+#[derive(Debug, Default, PartialEq)]
 pub struct Reading {
     pub number: u32,
     pub entries: Entries,
@@ -36,16 +36,15 @@ impl Reading {
 }
 
 /// Reads the batch that the bytes begin with.
-pub fn read(bytes: &[u8]) -> Reading {
+pub fn read(mode: Mode, bytes: &[u8]) -> Reading {
     match framed(bytes) {
         Err((number, needed)) => {
             let mut entries = [0; 16];
             entries[BYTES] = needed as i64;
             Reading { number, entries, ..Reading::default() }
         }
-        Ok(end) => {
-            checked(bytes, end).unwrap_or_else(|number| Reading { number, ..Reading::default() })
-        }
+        Ok(end) => checked(mode, bytes, end)
+            .unwrap_or_else(|number| Reading { number, ..Reading::default() }),
     }
 }
 
@@ -82,7 +81,7 @@ fn signed(bytes: &[u8]) -> i64 {
 }
 
 /// Reads on from place 21, in the order of the fields.
-fn checked(bytes: &[u8], end: usize) -> Result<Reading, u32> {
+fn checked(mode: Mode, bytes: &[u8], end: usize) -> Result<Reading, u32> {
     let mut part = Part { bytes, at: 21, end, strict: end == bytes.len() };
     let attributes = part.integer(2)?;
     let codec = attributes & 7;
@@ -107,7 +106,13 @@ fn checked(bytes: &[u8], end: usize) -> Result<Reading, u32> {
     [entries[8], entries[9]] = [bit(3), bit(4)];
     let mut reading = Reading::default();
     if bit(5) == 1 {
-        entries[10] = part.marker(count)?;
+        if count != 1 {
+            return Err(WRONG_COUNT);
+        }
+        entries[KIND] = match mode {
+            Mode::Bare => part.bare_marker()?,
+            Mode::Keyed => part.keyed_marker()?,
+        };
     } else {
         (0..count).try_for_each(|_| part.record(&mut reading))?;
     }
@@ -235,16 +240,37 @@ impl Part<'_> {
     }
 
     /// The kind of a control batch: 1 abort, 2 commit.
-    fn marker(&mut self, count: i64) -> Result<i64, u32> {
-        if count != 1 {
-            return Err(WRONG_COUNT);
-        }
+    fn bare_marker(&mut self) -> Result<i64, u32> {
         if self.integer(2)? != 0 {
             return Err(UNKNOWN_CONTROL);
         }
         match self.integer(2)? {
             0 => Ok(1),
             1 => Ok(2),
+            _ => Err(UNKNOWN_CONTROL),
+        }
+    }
+
+    /// The same of a record: "its record is read by the record rules, the key must begin with the
+    /// four bytes of version and type, and other key bytes, the value and headers, once read by
+    /// those rules (8 to 11 and 13 included), are ignored". "After 13, 12 also for a key that is
+    /// null, shorter than four or of unknown version or type."
+    fn keyed_marker(&mut self) -> Result<i64, u32> {
+        let mut ignored = Reading::default();
+        self.record(&mut ignored)?;
+        if self.at != self.end {
+            return Err(BYTES_LEFT);
+        }
+        let record = ignored.records[0];
+        let [start, length] = [record[2], record[3]];
+        if length < 4 {
+            return Err(UNKNOWN_CONTROL);
+        }
+        // "The writer in this mode gives a four-byte key, zero deltas, null value and no headers."
+        self.strict &= record == [0, 0, start, 4, 0, -1, 0, 0];
+        match self.bytes[start as usize..][..4] {
+            [0, 0, 0, 0] => Ok(1),
+            [0, 0, 0, 1] => Ok(2),
             _ => Err(UNKNOWN_CONTROL),
         }
     }
@@ -268,7 +294,7 @@ mod tests {
     }
 
     fn number(bytes: &[u8]) -> u32 {
-        read(bytes).number
+        read(Mode::Bare, bytes).number
     }
 
     fn varying(bytes: &[u8], most: usize, greatest_last: u8) -> Result<i64, u32> {
@@ -301,16 +327,17 @@ mod tests {
         let mut short = empty.clone();
         short[11] = 8;
         assert_eq!(number(&short), 2);
-        let needed = [0, 11, 12, 16, 17, 60].map(|end| read(&empty[..end]).entries[BYTES]);
+        let needed =
+            [0, 11, 12, 16, 17, 60].map(|end| read(Mode::Bare, &empty[..end]).entries[BYTES]);
         assert_eq!(needed, [12, 12, 17, 17, 61, 61]);
     }
 
     /// Document 01, A record, in reading order.
     #[test]
     fn records_have_their_rows() {
-        let smallest = read(&batch(0, 1, &[0x0C, 0, 0, 0, 1, 1, 0]));
+        let smallest = read(Mode::Bare, &batch(0, 1, &[0x0C, 0, 0, 0, 1, 1, 0]));
         assert_eq!(smallest.records, [[0, 0, 0, -1, 0, -1, 0, 0]]);
-        let with_value = read(&batch(0, 1, &[0x0E, 0, 0, 0, 1, 2, 0x41, 0]));
+        let with_value = read(Mode::Bare, &batch(0, 1, &[0x0E, 0, 0, 0, 1, 2, 0x41, 0]));
         assert_eq!(with_value.records, [[0, 0, 0, -1, 67, 1, 0, 0]]);
         assert!(smallest.canonical && with_value.canonical);
         assert_eq!(number(&batch(0, 1, &[0xC8, 1, 0, 0, 0, 1, 1, 0])), 13);
@@ -326,5 +353,62 @@ mod tests {
         assert_eq!([number(&batch(32, 1, &[0, 1])), number(&batch(32, 1, &[0, 0]))], [12, 8]);
         let no_text_then_null = [0x14, 0, 0, 0, 1, 1, 2, 2, 0xFF, 1, 0];
         assert_eq!(number(&batch(0, 1, &no_text_then_null)), 11);
+    }
+
+    /// Number and kind of a control batch with this body, in bare mode and in keyed mode.
+    fn both(body: &[u8]) -> [(u32, i64); 2] {
+        [Mode::Bare, Mode::Keyed].map(|mode| {
+            let read = read(mode, &batch(32, 1, body));
+            (read.number, read.entries[KIND])
+        })
+    }
+
+    /// C-16: what each mode says of the same markers.
+    #[test]
+    fn markers_have_two_forms() {
+        const ABORT: (u32, i64) = (0, 1);
+        const COMMIT: (u32, i64) = (0, 2);
+        const UNKNOWN: (u32, i64) = (12, 0);
+        let keyed = |key: [u8; 4]| [&[0x14, 0, 0, 0, 8][..], &key, &[1, 0]].concat();
+        assert_eq!(both(&keyed([0, 0, 0, 0])), [UNKNOWN, ABORT]);
+        assert_eq!(both(&keyed([0, 0, 0, 1])), [UNKNOWN, COMMIT]);
+        assert_eq!([both(&keyed([0, 1, 0, 1])), both(&keyed([0, 0, 0, 2]))], [[UNKNOWN; 2]; 2]);
+        assert_eq!([both(&keyed([1, 0, 0, 0])), both(&keyed([0, 0, 1, 0]))], [[UNKNOWN; 2]; 2]);
+        assert_eq!(both(&[0, 0, 0, 0]), [ABORT, (8, 0)]);
+        assert_eq!(both(&[0, 0, 0, 1]), [COMMIT, (8, 0)]);
+        let null = [0x0C, 0, 0, 0, 1, 1, 0];
+        assert_eq!(both(&null), [UNKNOWN; 2]);
+        assert_eq!(both(&[&null[..], &[0]].concat()), [UNKNOWN, (13, 0)]);
+        assert_eq!(both(&[0x12, 0, 0, 0, 6, 0, 0, 0, 1, 0]), [UNKNOWN; 2]);
+        assert_eq!(both(&[0x16, 0, 0, 0, 10, 0, 0, 0, 1, 0xFF, 1, 0]), [UNKNOWN, COMMIT]);
+        let six = [&[0x20, 0, 0, 0, 8, 0, 0, 0, 1, 12][..], &[0; 7]].concat();
+        assert_eq!(both(&six), [UNKNOWN, COMMIT]);
+        assert_eq!(both(&[0x14, 0, 0, 0, 1, 1, 2, 2, 0xFF, 0, 0]), [UNKNOWN, (11, 0)]);
+    }
+
+    /// C-16: the counts answered, what else is told of a marker, and which form is canonical.
+    #[test]
+    fn a_keyed_marker_has_no_rows() {
+        let bytes = batch(32, 1, &[0x14, 0, 0, 0, 8, 0, 0, 0, 0, 1, 0]);
+        assert_eq!((bytes.len(), &bytes[17..21]), (72, &[0xEC, 0xE5, 0x1F, 0xAE][..]));
+        let read_keyed = |body: &[u8]| read(Mode::Keyed, &batch(32, 1, body));
+        let abort = read(Mode::Keyed, &bytes);
+        assert_eq!(abort.entries, [0, 0, 0, 0, 0, 0, 0, 0, 0, 0, 1, 0, 0, 72, 0, 0]);
+        assert!(abort.canonical && abort.records.is_empty() && abort.headers.is_empty());
+        let with_header = read_keyed(&[0x1A, 0, 0, 0, 8, 0, 0, 0, 0, 1, 2, 2, 0x41, 0]);
+        assert_eq!((with_header.number, with_header.with_room(0, 0).0), (0, 0));
+        for other in [
+            &[0x14, 9, 0, 0, 8, 0, 0, 0, 0, 1, 0][..],
+            &[0x14, 0, 2, 0, 8, 0, 0, 0, 0, 1, 0],
+            &[0x14, 0, 0, 2, 8, 0, 0, 0, 0, 1, 0],
+            &[0x16, 0, 0, 0, 10, 0, 0, 0, 0, 0, 1, 0],
+            &[0x14, 0, 0, 0, 8, 0, 0, 0, 0, 0, 0],
+            &[0x94, 0, 0, 0, 0, 8, 0, 0, 0, 0, 1, 0],
+        ] {
+            let read = read_keyed(other);
+            assert_eq!((read.number, read.canonical), (0, false));
+        }
+        let counted = |count| read(Mode::Keyed, &batch(32, count, &bytes[61..])).number;
+        assert_eq!([-2, -1, 0, 2].map(counted), [7; 4]);
     }
 }

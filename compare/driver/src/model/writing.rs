@@ -1,11 +1,12 @@
-//! Writing by document 01: of every request its number, 20 to 24, or the length of the batch. Rows
-//! may hold any numbers.
+//! Writing by document 01, and in keyed mode by C-16: of every request its number, 20 to 24, or the
+//! length of the batch, and all bytes of a keyed control batch. Rows may hold any numbers.
 
 use super::*;
 
 /// What is asked of the writer.
 #[derive(Clone, Copy)]
 pub struct Asked<'a> {
+    pub mode: Mode,
     pub batch: &'a Entries,
     pub codec: i64,
     pub records: &'a [i64],
@@ -19,7 +20,11 @@ pub fn measure(asked: &Asked) -> Result<i64, u32> {
         return Err(CODEC_ASKED);
     }
     entries_fit(asked.batch).then_some(()).ok_or(WRONG_ROW)?;
-    let content = if asked.batch[10] == 0 { records_size(asked)? } else { 4 };
+    let content = match (asked.batch[KIND], asked.mode) {
+        (0, _) => records_size(asked)?,
+        (_, Mode::Bare) => 4,
+        (_, Mode::Keyed) => KEYED_MARKER.len() as i64,
+    };
     let batch_length = 49 + content;
     if batch_length > 2_147_483_647 {
         return Err(TOO_LONG);
@@ -36,6 +41,27 @@ pub fn answer(measured: Result<i64, u32>, output: usize) -> (u32, i64) {
     }
 }
 
+/// "A four-byte key, zero deltas, null value and no headers": a record of ten bytes after its length,
+/// an abort's.
+const KEYED_MARKER: [u8; 11] = [20, 0, 0, 0, 8, 0, 0, 0, 0, 1, 0];
+
+/// All bytes of the control batch that these entries ask for in keyed mode, where they are right.
+pub fn keyed_batch(batch: &Entries) -> Vec<u8> {
+    let attributes = 8 * batch[8] + 16 * batch[9] + 32;
+    let mut checked = (attributes as i16).to_be_bytes().to_vec();
+    checked.extend((batch[2] as i32).to_be_bytes());
+    checked.extend(batch[3..6].iter().flat_map(|entry| entry.to_be_bytes()));
+    checked.extend((batch[6] as i16).to_be_bytes());
+    checked.extend((batch[7] as i32).to_be_bytes());
+    checked.extend(1i32.to_be_bytes());
+    checked.extend(KEYED_MARKER);
+    checked[40 + 8] = (batch[KIND] - 1) as u8;
+    let epoch = (batch[1] as i32).to_be_bytes();
+    let crc = crc32c(&checked).to_be_bytes();
+    let length = 60i32.to_be_bytes();
+    [&batch[0].to_be_bytes()[..], &length, &epoch, &[2], &crc, &checked].concat()
+}
+
 fn in_bits(number: i64, bits: u32) -> bool {
     let limit = 1i64 << (bits - 1);
     (-limit..limit).contains(&number)
@@ -47,8 +73,8 @@ fn entries_fit(batch: &Entries) -> bool {
     let narrow = [(1, 32), (2, 32), (6, 16), (7, 32)];
     narrow.iter().all(|&(place, bits)| in_bits(batch[place], bits))
         && [batch[8], batch[9]].iter().all(|flag| (0..2).contains(flag))
-        && (0..3).contains(&batch[10])
-        && (batch[10] != 0 || batch[RECORDS] >= 0)
+        && (0..3).contains(&batch[KIND])
+        && (batch[KIND] != 0 || batch[RECORDS] >= 0)
         && batch[14..] == [0, 0]
 }
 
@@ -123,10 +149,21 @@ mod tests {
     const A: [i64; RECORD_ROW] = [0, 0, 0, -1, 0, 1, 0, 0];
 
     fn asked(codec: i64, kind: i64, count: i64, row: &[i64], headers: &[i64]) -> (u32, i64) {
+        asked_in(Mode::Bare, codec, kind, count, row, headers)
+    }
+
+    fn asked_in(
+        mode: Mode,
+        codec: i64,
+        kind: i64,
+        count: i64,
+        records: &[i64],
+        headers: &[i64],
+    ) -> (u32, i64) {
         let mut batch = [0; 16];
-        batch[10] = kind;
+        batch[KIND] = kind;
         batch[RECORDS] = count;
-        let asked = Asked { batch: &batch, codec, records: row, headers, source: b"A\xFF" };
+        let asked = Asked { mode, batch: &batch, codec, records, headers, source: b"A\xFF" };
         answer(measure(&asked), 76)
     }
 
@@ -142,5 +179,24 @@ mod tests {
         assert_eq!(asked(0, 0, 1, &with_header, &[1, 1, 0, 2]), (22, 0));
         assert_eq!(asked(0, 0, 1, &with_header, &[0, 1, 0, 2]), (0, 74));
         assert_eq!(asked(0, 0, 1, &[i64::MAX, 0, 0, -1, 0, 1, 0, 0], &[]), (24, 0));
+    }
+
+    /// C-16: a keyed control batch has 72 bytes, and all else is measured as in bare mode.
+    #[test]
+    fn a_keyed_marker_is_one_record() {
+        let keyed = |kind, count| asked_in(Mode::Keyed, 0, kind, count, &A, &[]);
+        assert_eq!([keyed(1, -1), keyed(2, 7), keyed(0, 1)], [(0, 72), (0, 72), (0, 69)]);
+        assert_eq!(asked_in(Mode::Keyed, 1, 1, 0, &[], &[]), (20, 0));
+        let mut entries = [0; 16];
+        entries[KIND] = 1;
+        let abort = keyed_batch(&entries);
+        assert_eq!((abort.len(), &abort[8..12]), (72, &[0, 0, 0, 0x3C][..]));
+        assert_eq!(&abort[17..23], [0xEC, 0xE5, 0x1F, 0xAE, 0, 0x20]);
+        assert_eq!(abort[57..], [0, 0, 0, 1, 0x14, 0, 0, 0, 8, 0, 0, 0, 0, 1, 0]);
+        entries = [-1, 2, 3, 4, 5, 6, 7, 8, 1, 1, 2, 0, 0, 0, 0, 0];
+        let commit = keyed_batch(&entries);
+        assert_eq!((&commit[..8], commit[15], commit[22]), (&[0xFF; 8][..], 2, 0x38));
+        let lows = [26, 34, 42, 50, 52, 56].map(|place: usize| commit[place]);
+        assert_eq!((lows, commit[69]), ([3, 4, 5, 6, 7, 8], 1));
     }
 }

@@ -21,11 +21,11 @@ enum-told c = search needs
 
 returns-2 : tie.Need-returns-2
 returns-2 c = let start = c .before .before .before .before .before .before .before in
-    measure-got _ _ (start .fits .codec) _ _ (c .before .before .before .before .before .if1 .left) _ (c .before .before .before .before .batch-asked .ensures) _ _ (c .before .before .batch .given .1) (c .measure .result) (c .measure .ensures)
+    measure-got _ _ _ (start .fits .codec) _ _ (c .before .before .before .before .before .if1 .left) _ (c .before .before .before .before .batch-asked .ensures) _ _ (c .before .before .batch .given .1) (c .measure .result) (c .measure .ensures)
 
 returns-3 : tie.Need-returns-3
 returns-3 c = let start = c .before .before .before .before .before in
-    measure-wrong _ _ (start .fits .codec) _ _ (c .before .before .before .if1 .left) _ (c .before .before .batch-asked .ensures) (c .enum-told .given .1)
+    measure-wrong _ _ _ (start .fits .codec) _ _ (c .before .before .before .if1 .left) _ (c .before .before .batch-asked .ensures) (c .enum-told .given .1)
 
 pub measure-asked-spec : {M : Type 1} → statement M
 measure-asked-spec =

@@ -8,10 +8,10 @@ use Rattle.batch_vectors.proofs.exact.agrees.Statement.{statement}
 use Rattle.batch_vectors.proofs.exact.agrees.Tie as tie
 
 abbrev Inv-loop : tie.InvT-loop
-Inv-loop s line whole k₀ k = k ≤ length s + 1
+Inv-loop mode s line whole k₀ k = k ≤ length s + 1
 
 abbrev μ-loop : tie.MeasureT-loop
-μ-loop s line whole k₀ k = length s + 1 - k
+μ-loop mode s line whole k₀ k = length s + 1 - k
 
 word-requires : tie.Need-word-requires Inv-loop μ-loop
 word-requires c κs = search needs

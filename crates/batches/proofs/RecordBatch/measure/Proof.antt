@@ -12,6 +12,9 @@ returns c = search measure-codec
 enum-told : tie.Need-enum-told
 enum-told c = search needs
 
+marked-requires : tie.Need-marked-requires
+marked-requires c κs = search needs
+
 enum-known-kind : tie.Need-enum-known-kind
 enum-known-kind c = search needs
 
@@ -21,17 +24,17 @@ measure-records-requires c κs = search needs
 enum-known-size : tie.Need-enum-known-size
 enum-known-size c = search needs
 
-add-t15 : tie.Need-add-t15
-add-t15 c =
+add-t17 : tie.Need-add-t17
+add-t17 c =
     let given = c .before .before .before .before .before .before .before .before .before .args in
-    let small = measured-small (viewFields (given .self)) _ _ _ _ _ (c .before .before .before .measure-records .ensures) (c .before .size .given .1) in
+    let small = measured-small (given .mode) (viewFields (given .self)) _ _ _ _ _ (c .before .before .before .measure-records .ensures) (c .before .size .given .1) in
     record { fits = omega (arith, small) }
 
 enum-known-f : tie.Need-enum-known-f
 enum-known-f c = search needs
 
 returns-2 : tie.Need-returns-2
-returns-2 c = search measure-marker
+returns-2 c = search (measure-marker, needs)
 
 returns-3 : tie.Need-returns-3
 returns-3 c = search measure-rows
@@ -45,10 +48,11 @@ measure-spec =
     (tie.spec
     returns
     enum-told
+    marked-requires
     enum-known-kind
     measure-records-requires
     enum-known-size
-    add-t15
+    add-t17
     enum-known-f
     returns-2
     returns-3

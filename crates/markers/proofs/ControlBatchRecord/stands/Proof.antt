@@ -1,23 +1,28 @@
 -- `markers::ControlBatchRecord::stands` meets its contract. Assumes nothing.
+use Rattle.markers.proofs.Comparing.{stands-by}
 use borrow.Author.Needs.{needs}
-use Rattle.markers.proofs.Reading.{marker-there, marker-missing}
 use Rattle.markers.proofs.ControlBatchRecord.stands.Statement.{statement}
 use Rattle.markers.proofs.ControlBatchRecord.stands.Tie as tie
-
-read-requires : tie.Need-read-requires
-read-requires c κs = search needs
 
 enum-told : tie.Need-enum-told
 enum-told c = search needs
 
+bare-stands-requires : tie.Need-bare-stands-requires
+bare-stands-requires c κs = search needs
+
 enum-told-2 : tie.Need-enum-told-2
 enum-told-2 c = search needs
 
+record-stands-requires : tie.Need-record-stands-requires
+record-stands-requires c κs = search needs
+
 returns : tie.Need-returns
-returns c = search marker-there
+returns c = search stands-by
 
 returns-2 : tie.Need-returns-2
-returns-2 c = search marker-missing
+returns-2 c = search stands-by
 
 pub stands-spec : {M : Type 1} → statement M
-stands-spec = tie.close (tie.spec read-requires enum-told enum-told-2 returns returns-2)
+stands-spec =
+    tie.close
+    (tie.spec enum-told bare-stands-requires enum-told-2 record-stands-requires returns returns-2)

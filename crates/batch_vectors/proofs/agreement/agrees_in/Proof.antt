@@ -1,10 +1,10 @@
--- `batch_vectors::agreement::agrees` is safe and ends. The bytes that are lent end within the space, which the code
+-- `batch_vectors::agreement::agrees_in` is safe and ends. The bytes that are lent end within the space, which the code
 -- tests. Assumes nothing.
 use native.Mathlib.Omega.{arith}
 use borrow.Author.Needs.{needs}
 use lib.ListN.{length-take}
-use Rattle.batch_vectors.proofs.agreement.agrees.Statement.{statement}
-use Rattle.batch_vectors.proofs.agreement.agrees.Tie as tie
+use Rattle.batch_vectors.proofs.agreement.agrees_in.Statement.{statement}
+use Rattle.batch_vectors.proofs.agreement.agrees_in.Tie as tie
 
 word-requires : tie.Need-word-requires
 word-requires c κs = search needs
@@ -72,8 +72,8 @@ same-length-3 c = search needs
 returns-5 : tie.Need-returns-5
 returns-5 c = search needs
 
-pub agrees-spec : {M : Type 1} → statement M
-agrees-spec =
+pub agrees-in-spec : {M : Type 1} → statement M
+agrees-in-spec =
     tie.close
     (tie.spec
     word-requires

@@ -1,0 +1,85 @@
+-- Bytes that are compared one by one, and a marker that stands as it is written. Assumes nothing.
+use Prim.Native.Nat.{ℕ, _+_, _-_, _<_, _≤_}
+use mathlib.Core.Path.{_≡_, refl, sym, ap, _∙_, subst}
+use mathlib.Core.Bool.{Bool, true, false}
+use mathlib.Core.List.{List, _++_, append-nil}
+use native.Mathlib.Omega.{arith}
+use native.Mathlib.Decide.{decLt}
+use lib.ListN.{length, getD, drop, length-drop}
+use lib.Seq.{ext-getD, getD-drop, drop-length}
+use Rattle.numbers.specs.Exactly.{Exactly}
+use Rattle.primitives.specs.Stands.{Stands}
+use Rattle.primitives.proofs.Places.{all-left}
+use Rattle.layout.specs.declared.ControlMode.{ControlMode}
+use Rattle.layout.specs.Batch.{Marker, abort, commit}
+use Rattle.markers.specs.Forms.{writesOf}
+use Rattle.markers.specs.Promises.{StandsAlone, StandsPromise}
+use Rattle.markers.proofs.Keyed.{keyed-lawful}
+
+module _ (bytes s : List ℕ) (at : ℕ) where
+  -- the first i of them are the same
+  abbrev pub Alike : ℕ → Type 0
+  Alike i = (j : ℕ) → j < i → getD s (at + j) 0 ≡ getD bytes j 0
+
+  abbrev pub Stand : Type 0
+  Stand = Stands s at (length s) bytes
+
+  pub one-compared : (i : ℕ) → Alike i → getD s (at + i) 0 ≡ getD bytes i 0 → Alike (i + 1)
+  one-compared i a e j h =
+      elim (decLt j i) [
+        | yes l ↦ a j l
+        | Dec.no l ↦ let same : i ≡ j = omega arith in subst (λ (k : ℕ). getD s (at + k) 0 ≡ getD bytes k 0) same e
+      ]
+
+  no-answer : (Stand → ⊥) → Exactly (false ≡ true) Stand
+  no-answer h = (λ e. absurd (let z : _≡_ {A = ℕ} 0 1 = cc in omega arith), λ x. absurd (h x))
+
+  pub past-it : length s < at → Exactly (false ≡ true) Stand
+  past-it h = no-answer (λ x. omega (arith, x .end))
+
+  pub not-as-long : (n : ℕ) → n ≡ length s → at ≤ n → (n - at ≡ length bytes → ⊥) → Exactly (false ≡ true) Stand
+  not-as-long n e l h = no-answer (λ x. h (omega (arith, x .end)))
+
+  pub one-differs : (i : ℕ) → (getD s (at + i) 0 ≡ getD bytes i 0 → ⊥) → Exactly (false ≡ true) Stand
+  one-differs i h = no-answer (λ x. h (sym (getD-drop at s i 0) ∙ ap (λ (l : List ℕ). getD l i 0) (all-left x)))
+
+  pub all-compared : (i : ℕ) → at + length bytes ≡ length s → length bytes ≤ i → Alike i → Exactly (true ≡ true) Stand
+  all-compared k e l a =
+      let n : length (drop at s) ≡ length bytes = length-drop at s ∙ omega arith in
+      let same : drop at s ≡ bytes = ext-getD 0 (drop at s) bytes n (λ i h. getD-drop at s i 0 ∙ a i (omega arith)) in (
+        λ _. record {
+          split = same ∙ sym (append-nil bytes) ∙ ap (λ (t : List ℕ). bytes ++ t) (sym (drop-length s));
+          end = sym e;
+          within = omega arith;
+        },
+        λ _. refl,
+      )
+
+-- ---- a keyed marker
+
+module _ (s : List ℕ) (at : ℕ) where
+  written-alone : (m : Marker) → Stands s at (length s) (writesOf ControlMode.Keyed m) → StandsAlone ControlMode.Keyed s at
+  written-alone m x = (m, record { bytes = writesOf ControlMode.Keyed m; stands = x; encodes = keyed-lawful .strict _ m .1 refl })
+
+  alone-written : (x : StandsAlone ControlMode.Keyed s at) → Stands s at (length s) (writesOf ControlMode.Keyed (x .0))
+  alone-written (m, x) = subst (Stands s at (length s)) (keyed-lawful .strict (x .bytes) m .0 (x .encodes)) (x .stands)
+
+  module _ (a : List ℕ) (e : a ≡ writesOf ControlMode.Keyed abort) (x : Bool) (f : Exactly (x ≡ true) (Stands s at (length s) a)) where
+    pub abort-stands : x ≡ true → StandsPromise ControlMode.Keyed s at true
+    abort-stands h = (λ _. written-alone abort (subst (Stands s at (length s)) e (f .0 h)), λ _. refl)
+
+    pub commit-stands : x ≡ false → (b : List ℕ) → b ≡ writesOf ControlMode.Keyed commit → (y : Bool) → Exactly (y ≡ true) (Stands s at (length s) b)
+        → StandsPromise ControlMode.Keyed s at y
+    commit-stands h b i y g = (λ t. written-alone commit (subst (Stands s at (length s)) i (g .0 t)), λ z. by (z .0) (alone-written z))
+      where
+        by : (m : Marker) → Stands s at (length s) (writesOf ControlMode.Keyed m) → y ≡ true
+        by abort z =
+            let w : _≡_ {A = Bool} true false = sym (f .1 (subst (Stands s at (length s)) (sym e) z)) ∙ h in
+            absurd (let v : _≡_ {A = ℕ} 0 1 = cc in omega arith)
+        by commit z = g .1 (subst (Stands s at (length s)) (sym i) z)
+
+-- ---- by the mode
+
+module _ (mode : ControlMode) (s : List ℕ) (at : ℕ) (r : Bool) where
+  pub stands-by : (known : ControlMode) → mode ≡ known → StandsPromise known s at r → StandsPromise mode s at r
+  stands-by known e h = subst (λ (k : ControlMode). StandsPromise k s at r) (sym e) h

@@ -1,0 +1,44 @@
+-- `markers::ControlBatchRecord::in_key` meets its contract. Assumes nothing.
+use native.Mathlib.Omega.{arith}
+use Rattle.opening.proofs.Judging.{cut-length}
+use Rattle.markers.proofs.KeyReading.{key-short, key-marks, key-unknown}
+use borrow.Author.Needs.{needs}
+use Rattle.markers.proofs.ControlBatchRecord.in_key.Statement.{statement}
+use Rattle.markers.proofs.ControlBatchRecord.in_key.Tie as tie
+
+returns : tie.Need-returns
+returns c = search key-short
+
+add-past : tie.Need-add-past
+add-past c = search needs
+
+slice-aggregate-read-bare : tie.Need-slice-aggregate-read-bare
+slice-aggregate-read-bare c = cut-length _ _ (omega arith)
+
+read-bare-requires : tie.Need-read-bare-requires
+read-bare-requires c κs = search needs
+
+enum-known-marker : tie.Need-enum-known-marker
+enum-known-marker c = search needs
+
+enum-known-f : tie.Need-enum-known-f
+enum-known-f c = search needs
+
+returns-2 : tie.Need-returns-2
+returns-2 c = search (key-marks, needs)
+
+returns-3 : tie.Need-returns-3
+returns-3 c = search (key-unknown, needs)
+
+pub in-key-spec : {M : Type 1} → statement M
+in-key-spec =
+    tie.close
+    (tie.spec
+    returns
+    add-past
+    slice-aggregate-read-bare
+    read-bare-requires
+    enum-known-marker
+    enum-known-f
+    returns-2
+    returns-3)

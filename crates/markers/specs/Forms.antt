@@ -1,0 +1,54 @@
+-- What is asked of a form of control batches: its grammar, the way in which it is read, and what is written.
+use Prim.Native.Nat.{ℕ, _≤_}
+use mathlib.Core.Path.{_≡_}
+use mathlib.Core.Bool.{Bool, true, false}
+use mathlib.Core.List.{List}
+use lib.ListN.{length}
+use Rattle.numbers.specs.Bytes.{Bytes}
+use Rattle.numbers.specs.Exactly.{Exactly}
+use Rattle.primitives.specs.Step.{ok, no}
+use Rattle.primitives.specs.Stands.{Stands, Encoding}
+use Rattle.records.specs.Written.{writtenRecord}
+use Rattle.layout.specs.declared.ControlMode.{ControlMode}
+use Rattle.layout.specs.Batch.{Marker}
+use Rattle.layout.specs.Format.{grammarOf, markerRecord}
+use Rattle.opening.specs.Judgement.{wayOf}
+use Rattle.opening.specs.Faults.{wrongOf}
+use Rattle.opening.specs.Statements.{Placeless, FaultsOf}
+use Rattle.markers.specs.Markers.{writtenMarker}
+
+-- What is written of a marker.
+-- Exception in bare mode, as in the Rust: version and type alone.
+unfoldable pub writesOf : ControlMode → Marker → List ℕ
+writesOf ControlMode.Bare m = writtenMarker m
+writesOf ControlMode.Keyed m = writtenRecord (markerRecord (writtenMarker m))
+
+-- how many bytes that are
+abbrev pub sizeOf : ControlMode → ℕ
+sizeOf ControlMode.Bare = 4
+sizeOf ControlMode.Keyed = 11
+
+pub record Lawful (mode : ControlMode) : Type 0 where
+  -- what is read is of the grammar, and ends where the bytes end
+  pub sound : (s : List ℕ) (p q : ℕ) (m : Marker) → Bytes s → wayOf mode s p ≡ ok m q
+      → Encoding (grammarOf mode false) s p q m × (q ≡ length s)
+  -- what is of the grammar is read, where it ends with the bytes
+  pub complete : (strict : Bool) (s : List ℕ) (p : ℕ) (bs : List ℕ) (m : Marker) → Stands s p (length s) bs → grammarOf mode strict bs m
+      → wayOf mode s p ≡ ok m (length s)
+  -- it refuses by none but the numbers 8 to 13
+  pub late : (s : List ℕ) (p n : ℕ) → wayOf mode s p ≡ no n → (8 ≤ n) × (n ≤ 13)
+  -- and by the first fault, wherever there is one
+  pub faults : FaultsOf (wayOf mode) (wrongOf mode)
+  -- the place is nothing but where it reads
+  pub placeless : Placeless (wayOf mode)
+  -- by the strict grammar a marker has what is written of it, and nothing else
+  pub strict : (bs : List ℕ) (m : Marker) → Exactly (grammarOf mode true bs m) (bs ≡ writesOf mode m)
+  -- and that is the shortest
+  pub shortest : (strict : Bool) (bs : List ℕ) (m : Marker) → grammarOf mode strict bs m → length (writesOf mode m) ≤ length bs
+  -- of so many bytes
+  pub size : (m : Marker) → length (writesOf mode m) ≡ sizeOf mode
+  pub bytes : (m : Marker) → Bytes (writesOf mode m)
+
+-- Both forms are lawful.
+abbrev pub FormsLawful : Type 0
+FormsLawful = (mode : ControlMode) → Lawful mode
