@@ -3,8 +3,8 @@
 
     tools/vectors.py vectors > crates/vectors/stdin
 
-Every expectation is worked out here, by Python's arithmetic, from the sentences and tables of document 01, from Kafka's
-page for control batches as brokers write them, from RFC 3720's polynomial and from RFC 3629's rows. Nothing of the code
+Every expectation is worked out here, by Python's arithmetic, from the sentences and tables of document 01, from document
+02's C-16 for control batches as brokers write them, from RFC 3720's polynomial and from RFC 3629's rows. Nothing of the code
 under test is used."""
 from itertools import islice
 import sys
@@ -42,8 +42,8 @@ ABOUT = """\
 # HEX is capital digits, two to a byte, or - for no bytes."""
 ABOUT_BATCHES = """\
 # Cases for crates/batch_vectors, written by tools/vectors.py. The expectations come from the sentences and tables of
-# document 01 and, for control batches as brokers write them, from Kafka's page, by Python's arithmetic, and not from
-# the code under test.
+# document 01 and, for control batches as brokers write them, of document 02's C-16, by Python's arithmetic, and not
+# from the code under test.
 #
 # = NAME                         the cases that follow, up to the next such line, are the group NAME
 # bare .., keyed ..              the case that follows the word holds where markers stand alone, as document 01 has

@@ -1,27 +1,26 @@
 -- A batch that stands at any place of any list is accepted: each test is met by the part that it is of, and the marker
 -- or the records are read in the batch's own window, where they end with it. Assumes nothing.
 use Prim.Native.Nat.{ℕ, _+_, _≤_}
-use mathlib.Core.Path.{_≡_, refl, sym, ap, _∙_, subst}
+use mathlib.Core.Path.{_≡_, refl, sym, ap, _∙_}
 use mathlib.Core.Bool.{Bool, true, false}
 use mathlib.Core.Logic.{_⊎_, inl, inr}
 use mathlib.Core.List.{List}
 use native.Mathlib.Omega.{arith}
-use borrow.Author.Tests.{le-ltb, eq-eqb}
-use lib.IntN.{ℤ, pos}
+use borrow.Author.Tests.{eq-eqb}
+use lib.IntN.{ℤ}
 use lib.ListN.{length, take}
 use lib.Seq.{length-take-le}
 use Rattle.primitives.specs.Step.{ok}
 use Rattle.primitives.specs.Stands.{Stands}
-use Rattle.primitives.proofs.Places.{first, second, all-left}
-use Rattle.primitives.proofs.Integers.{integer-complete}
+use Rattle.primitives.proofs.Places.{first, all-left}
 use Rattle.primitives.proofs.Windows.{inside}
 use Rattle.crc32c.specs.Crc.{crc32c}
 use Rattle.records.specs.Format.{Record}
 use Rattle.records.proofs.Complete.{records-complete}
 use Rattle.records.proofs.Shows.{records-shows}
 use Rattle.layout.specs.Table.{table}
-use Rattle.layout.specs.Batch.{Marker, Content, control, records, Batch}
-use Rattle.layout.specs.Format.{howMany, Counts, exactly, minusOne, markerType, MarkerBytes, ContentBytes, BatchBytes}
+use Rattle.layout.specs.Batch.{Content, control, records, Batch}
+use Rattle.layout.specs.Format.{howMany, Counts, exactly, minusOne, ContentBytes, BatchBytes}
 use Rattle.opening.specs.Judgement.{wayOf, accepted, Attributes, numberIn, attributesIn, fieldsIn, totalAt, openedAt, contentAt, wholeAt, judgeWith, apart}
 use Rattle.opening.proofs.Tests.{Says, there, opened, total-is, opening-is}
 use Rattle.layout.specs.declared.ControlMode.{ControlMode}

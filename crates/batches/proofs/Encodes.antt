@@ -25,7 +25,6 @@ use Rattle.layout.specs.Table.{FixedFields, unchecked, fixedChecked, uncheckedF
 use Rattle.layout.specs.Batch.{Fields, Content, control, records, Batch}
 use Rattle.layout.specs.Format.{attributesOf, howMany, Counts, ContentBytes, BatchBytes}
 use Rattle.layout.proofs.Flags.{timestamp-small, bit-small, control-small}
-use Rattle.markers.proofs.Encodes.{marker-encodes}
 use Rattle.layout.specs.declared.ControlMode.{ControlMode}
 use Rattle.markers.proofs.Forms.{forms-lawful}
 use Rattle.markers.specs.Forms.{writesOf}

@@ -17,7 +17,6 @@ use mir.ValLaws.{toZ-pos}
 use Rattle.numbers.specs.Pick.{pick}
 use Rattle.numbers.specs.Concat.{concat}
 use Rattle.numbers.specs.Promises.{PutPromise}
-use Rattle.numbers.proofs.Integers.{big-endian-length}
 use Rattle.numbers.proofs.Pens.{put-emits, emit-inside}
 use Rattle.primitives.specs.Step.{Step, ok, no, mapStep}
 use Rattle.primitives.proofs.Refusing.{RefusedBy}
@@ -42,7 +41,7 @@ use Rattle.layout.specs.Format.{controlBit, attributesFor, attributesOf, howMan
 use Rattle.layout.specs.Fixed.{frameBytes, timesBytes, producerBytes, checkedPart, fixedBefore}
 use Rattle.layout.proofs.Putting.{fixed-length}
 use Rattle.markers.specs.declared.ControlBatchRecord.{ControlBatchRecord}
-use Rattle.markers.specs.Markers.{writtenMarker, viewMarker}
+use Rattle.markers.specs.Markers.{viewMarker}
 use Rattle.layout.specs.declared.ControlMode.{ControlMode}
 use Rattle.markers.proofs.Forms.{forms-lawful}
 use Rattle.markers.specs.Forms.{sizeOf, writesOf}

@@ -1,12 +1,12 @@
 -- The modes part only at the marker: what is opened before it is the same, and the numbers of a marker are later ones.
 -- Assumes nothing.
 use Prim.Native.Nat.{ℕ, _+_, _<_, _≤_}
-use mathlib.Core.Path.{_≡_, refl, sym, ap, _∙_, subst}
+use mathlib.Core.Path.{_≡_, refl, sym, ap, _∙_}
 use mathlib.Core.Bool.{Bool, true, false}
 use mathlib.Core.List.{List}
 use native.Mathlib.Omega.{arith}
 use lib.Dec.{eqb}
-use lib.ListN.{length, take, drop}
+use lib.ListN.{take, drop}
 use Rattle.primitives.specs.Step.{Step, ok, no, mapStep}
 use Rattle.primitives.proofs.Steps.{map-ok}
 use Rattle.primitives.proofs.Picks.{picked}
@@ -16,7 +16,7 @@ use Rattle.layout.specs.declared.ControlMode.{ControlMode}
 use Rattle.layout.specs.Table.{table}
 use Rattle.layout.specs.Batch.{Fields, Marker, control}
 use Rattle.layout.specs.Format.{grammarOf}
-use Rattle.opening.specs.Judgement.{Judged, Judgement, more, refused, accepted, apart, Attributes, unsignedIn, attributesIn, fieldsIn, totalAt, openedAt, contentAt, wayOf, judgeAt}
+use Rattle.opening.specs.Judgement.{Judged, Judgement, more, refused, accepted, apart, unsignedIn, attributesIn, fieldsIn, totalAt, openedAt, contentAt, wayOf}
 use Rattle.opening.specs.Opened.{Known, knownIn, KnownAt, knownAt, openBy, openAt, judgedAs, judgedFrom}
 use Rattle.opening.proofs.Judging.{judged-by-opening, opened-inside}
 use Rattle.opening.proofs.Verdicts.{more-not-accepted, more-not-refused, refused-not-accepted, same-accepted}

@@ -8,15 +8,13 @@ use mathlib.Core.List.{List}
 use native.Mathlib.Omega.{arith}
 use native.Mathlib.Nat.{zero-add}
 use borrow.Author.Tests.{ltb-true, lt-ltb}
-use lib.Dec.{ltb}
 use lib.IntN.{ℤ, pos, negsuc}
 use lib.ListN.{length, take, length-take}
-use Rattle.primitives.specs.Step.{ok, no, andThen}
-use Rattle.primitives.specs.Reading.{signedBy, integerAt}
+use Rattle.primitives.specs.Step.{no}
+use Rattle.primitives.specs.Reading.{signedBy}
 use Rattle.primitives.proofs.Windows.{big-window}
-use Rattle.records.proofs.Refusals.{Refuses, refusal-within, and-then-refuses, pick-refuses, integer-refuses, records-refuses}
+use Rattle.records.proofs.Refusals.{refusal-within, records-refuses}
 use Rattle.layout.specs.Table.{Slot, table}
-use Rattle.layout.specs.Batch.{Marker, abort, commit}
 use Rattle.opening.specs.Judgement.{wayOf, refused, accepted, unsignedIn, numberIn, attributesIn, is, below, Control, contentAt, judge}
 use Rattle.opening.proofs.Tests.{Totals, low, unknown, there, is-false, is-not, Openings, no-attributes, unknown-codec, no-fields, low-count, compressed, wrong-count}
 use Rattle.layout.specs.declared.ControlMode.{ControlMode}

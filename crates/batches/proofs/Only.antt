@@ -17,7 +17,6 @@ use Rattle.records.proofs.Written.{run-written}
 use Rattle.records.proofs.Shortest.{run-shortest}
 use Rattle.layout.specs.Batch.{Content, control, records, Batch}
 use Rattle.layout.specs.Format.{Counts, exactly, ContentBytes, BatchBytes}
-use Rattle.markers.proofs.Encodes.{marker-written}
 use Rattle.layout.specs.declared.ControlMode.{ControlMode}
 use Rattle.markers.proofs.Forms.{forms-lawful}
 use Rattle.batches.specs.Writer.{writtenContent, checkedBytes, batchLengthOf, writtenBatch, mostLength}

@@ -12,7 +12,7 @@ use Rattle.primitives.specs.Step.{Step, ok, no}
 use Rattle.records.specs.Judgement.{RecordSpans}
 use Rattle.records.specs.Rows.{Tables}
 use Rattle.layout.specs.Batch.{Content, control, records}
-use Rattle.opening.specs.Judgement.{wayOf, Judgement, Judged, more, refused, accepted, Accepted, Control, judgementOf, wholeAt, judgeWhole, judgeWith, totalAt, bareMarkerAt, judge}
+use Rattle.opening.specs.Judgement.{wayOf, Judgement, Judged, more, refused, accepted, Accepted, Control, judgementOf, wholeAt, judgeWhole, judgeWith, totalAt, judge}
 use Rattle.opening.proofs.Tests.{Totals, few, low, short, unknown, lacking, there, totals, total-is}
 use Rattle.batches.specs.declared.BatchRead.{BatchRead}
 use Rattle.batches.specs.Answers.{Standing, Answer, viewRead, wants, lacksRoom, recordsIn, headersOf, roomsOf, hasRoom, answerOf}

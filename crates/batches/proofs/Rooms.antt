@@ -13,7 +13,7 @@ use Rattle.numbers.proofs.Picks.{both-hold, one-fails, second-fails}
 use Rattle.records.specs.Judgement.{RecordSpans}
 use Rattle.records.specs.Rows.{headersIn, Tables}
 use Rattle.layout.specs.Batch.{Content, control, records}
-use Rattle.opening.specs.Judgement.{wayOf, Judgement, more, refused, accepted, Accepted, judgeWith, bareMarkerAt, judge}
+use Rattle.opening.specs.Judgement.{wayOf, Judgement, more, refused, accepted, Accepted, judgeWith, judge}
 use Rattle.batches.specs.Answers.{Answer, viewCheck, viewRead, answerWithRoom, wants, refuses, acceptedAs, lacksRoom, recordsIn, headersOf, Rooms, roomsOf, hasRoom, answerOf, stored}
 use Rattle.batches.specs.Promises.{ReadOutcome, ReadBy}
 use Rattle.batches.specs.Statements.{Untouched, CheckAgrees}

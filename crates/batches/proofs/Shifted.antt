@@ -11,7 +11,7 @@ use lib.Seq.{take-append-add, drop-append-add}
 use Rattle.primitives.specs.Step.{Step, ok, no, mapStep}
 use Rattle.primitives.specs.Shifted.{same, movedStep, Shifted}
 use Rattle.primitives.proofs.Steps.{and-then-and-then}
-use Rattle.primitives.proofs.Shifted.{ltb-add, moved, big-shifted, integer-shifted}
+use Rattle.primitives.proofs.Shifted.{ltb-add, moved, big-shifted}
 use Rattle.primitives.proofs.Picks.{and-then-pick}
 use Rattle.records.proofs.Shifted.{records-shifted}
 use Rattle.opening.specs.Judgement.{Judged, more, refused, accepted, Accepted, Attributes, totalAt, countOf, openedAt, Control, contentAt, wholeAt, judgementOf, judgeWhole, judgeWith}

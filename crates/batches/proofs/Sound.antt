@@ -2,26 +2,23 @@
 -- batch's own bytes end with its window, so what is left of the window is what is counted, and what is checked.
 -- Assumes nothing.
 use Prim.Native.Nat.{ℕ, _+_, _-_, _*_, _/_, _^_, _≤_, _<_}
-use mathlib.Core.Path.{_≡_, refl, sym, ap, _∙_, subst, subst₂}
+use mathlib.Core.Path.{_≡_, refl, sym, ap, _∙_, subst}
 use mathlib.Core.Bool.{Bool, true, false}
 use mathlib.Core.Logic.{_⊎_, inl, inr}
 use mathlib.Core.List.{List, _++_}
 use native.Mathlib.Omega.{arith}
-use borrow.Author.Tests.{ltb-false}
-use lib.Dec.{ltb}
-use lib.IntN.{ℤ, pos}
+use lib.IntN.{pos}
 use lib.ListN.{length, take, length-map}
 use lib.Seq.{length-take-le}
 use Rattle.numbers.specs.Bytes.{Bytes}
 use Rattle.numbers.specs.Concat.{concat}
 use Rattle.numbers.specs.Format.{Unsigned, Integer}
-use Rattle.primitives.specs.Step.{ok, andThen}
+use Rattle.primitives.specs.Step.{ok}
 use Rattle.primitives.specs.Stands.{Stands, Encoding}
-use Rattle.primitives.specs.Reading.{signedBy, integerAt}
-use Rattle.primitives.proofs.Steps.{and-then-ok, map-ok}
+use Rattle.primitives.specs.Reading.{signedBy}
+use Rattle.primitives.proofs.Steps.{map-ok}
 use Rattle.primitives.proofs.Places.{joined, all-left}
 use Rattle.primitives.proofs.Windows.{outside, window-bytes, big-window}
-use Rattle.primitives.proofs.Picks.{picked, passed-over}
 use Rattle.crc32c.specs.Crc.{crc32c}
 use Rattle.records.specs.Format.{Record}
 use Rattle.records.specs.Judgement.{RecordSpans, recordsAt}
@@ -29,10 +26,10 @@ use Rattle.records.specs.Placed.{shownRecord}
 use Rattle.records.proofs.Shows.{records-shows}
 use Rattle.records.proofs.Sound.{records-sound}
 use Rattle.layout.specs.Table.{Slot, table, uncountedFields, uncheckedFields, checkedFields}
-use Rattle.layout.specs.Batch.{Marker, Content, control, records, Batch}
-use Rattle.layout.specs.Format.{bit, controlBit, howMany, Counts, markerType, MarkerBytes, ContentBytes, BatchBytes}
-use Rattle.opening.specs.Judgement.{wayOf, Accepted, unsignedIn, numberIn, attributesIn, fieldsIn, is, contentAt, markerOf, endedAt, bareMarkerAt}
-use Rattle.opening.proofs.Tests.{Says, is-true}
+use Rattle.layout.specs.Batch.{Content, control, records, Batch}
+use Rattle.layout.specs.Format.{bit, controlBit, howMany, Counts, ContentBytes, BatchBytes}
+use Rattle.opening.specs.Judgement.{wayOf, Accepted, unsignedIn, numberIn, attributesIn, fieldsIn, is, contentAt}
+use Rattle.opening.proofs.Tests.{Says}
 use Rattle.layout.specs.declared.ControlMode.{ControlMode}
 use Rattle.markers.proofs.Forms.{forms-lawful}
 use Rattle.batches.specs.Placed.{placedContent, placedBatch, shownContent, shownBatch}

@@ -10,7 +10,7 @@ use Rattle.primitives.specs.Reading.{signedBy}
 use Rattle.primitives.proofs.Windows.{big-longer}
 use Rattle.records.specs.Rows.{Tables}
 use Rattle.layout.specs.Table.{Slot, table}
-use Rattle.opening.specs.Judgement.{wayOf, Judged, Judgement, more, numberIn, is, below, Control, judgementOf, wholeAt, judgeWhole, judgeWith, bareMarkerAt, judge}
+use Rattle.opening.specs.Judgement.{wayOf, Judged, Judgement, more, numberIn, is, below, Control, judgementOf, wholeAt, judgeWhole, judgeWith, judge}
 use Rattle.opening.proofs.Tests.{Totals, few, low, short, unknown, lacking, there, totals, total-is}
 use Rattle.batches.specs.Answers.{viewRead, answerWithRoom, roomsOf, answerOf}
 use Rattle.batches.specs.Promises.{ReadOutcome, ReadBy}

@@ -2,11 +2,11 @@
 -- under the statement's name in small letters: `stands : Stands`.
 --
 -- The words that are used: `judge` (crates/opening/specs/Judgement.antt) is what document 01, as C-16 has it, answers
--- where rows are enough, which is demand 2's answer (Demand2.antt says it by Kafka's format alone). Each statement begins
--- with the mode, by which a control batch's marker stands alone or in the key of a record. `ReadPromise`
--- (Promises.antt) is what `RecordBatch::read` promises on some bytes and some tables: its result, and both tables at
--- exit. A result says document 01's number and the values named with it (`viewRead`, Answers.antt). A longer beginning
--- is `s ++ after`.
+-- where rows are enough, which is demand 2's answer (Demand2.antt says it by Kafka's format alone). Each statement of a
+-- function begins with the mode, by which a control batch's marker stands alone or in the key of a record; that of the
+-- writer has it in what is handed to it (`Request`). `ReadPromise` (Promises.antt) is what `RecordBatch::read` promises
+-- on some bytes and some tables: its result, and both tables at exit. A result says document 01's number and the values
+-- named with it (`viewRead`, Answers.antt). A longer beginning is `s ++ after`.
 --
 -- Of the first three sentences each is a statement of a judging function, and is then claimed for `judge`, the public
 -- reader's, and for every way of reading control batches, every place of the batch's first byte and every row of its

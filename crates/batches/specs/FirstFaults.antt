@@ -40,8 +40,8 @@ JudgedFaults = (mode : ControlMode) (s : List ℕ) (n : ℕ) → Bytes s → Exa
 
 -- ---- 12 in keyed mode
 
--- A control batch of one record, right in all else up to the batch's end, whose key is null, shorter than four bytes, or
--- of an unknown version or type.
+-- A control batch of one record, right in all else up to the batch's end, whose key is null, shorter than four bytes,
+-- or of an unknown version or type.
 pub record UnknownKey (s : List ℕ) : Type 0 where
   pub batchLength : ℕ
   pub checked : Checked s batchLength

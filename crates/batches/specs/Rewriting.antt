@@ -152,7 +152,7 @@ CanonicalAgain =
 
 -- ---- one batch, one writing
 
--- Two different batches never give the same bytes.
+-- In one mode two different batches never give the same bytes.
 abbrev pub WrittenApart : Type 0
 WrittenApart =
     (q q′ : Request) (out out′ : List ℕ) (o o′ : WriteOutcome) (n n′ : ℕ) (c c′ : Content RecordSpans) → q .mode ≡ q′ .mode

@@ -395,7 +395,8 @@ fn write_marker(
     Written::Bytes(size)
 }
 
-// The records come first: the fixed fields in front of them have their length and checksum.
+// The records come first: the fixed fields in front of them have their length and checksum. The mode is the
+// contract's alone: records are written alike in both.
 fn write_rows(
     mode: ControlMode,
     fields: BatchFields,

@@ -4,23 +4,23 @@ use numbers::put;
 use opening::BatchFault;
 use primitives::Cursor;
 use primitives::Int16Read;
-use primitives::Span;
-use primitives::SpanRead;
 use reading::RecordsCheck;
 use reading::check_records;
+use records::CountRead;
+use records::Place;
 use records::Record;
 use records::RecordFault;
-ghost use Prim.Native.Nat.{_+_, _≤_};
+use records::RecordRead;
+use records::read_count;
 ghost use mathlib.Core.Path.{_≡_};
 ghost use mathlib.Core.Bool.{true};
-ghost use mathlib.Core.Option.{some};
+ghost use lib.ListN.{length};
 ghost use Rattle.numbers.specs.Exactly.{Exactly};
 ghost use Rattle.primitives.specs.Stands.{Stands};
-ghost use lib.ListN.{length};
-ghost use Rattle.opening.specs.Judgement.{endedAt, markerInKey};
-ghost use Rattle.markers.specs.Markers.{viewMarker, viewMarkerRead};
-ghost use Rattle.markers.specs.Forms.{writesOf};
 ghost use Rattle.layout.specs.declared.ControlMode.{ControlMode};
+ghost use Rattle.opening.specs.Judgement.{endedAt, markerInKey};
+ghost use Rattle.markers.specs.Markers.{viewMarker, viewMarkerRead, keyOf, KeyPlace};
+ghost use Rattle.markers.specs.Forms.{writesOf};
 ghost use Rattle.markers.specs.Promises.{ReadMarkerPromise, StandsPromise, PutMarkerPromise};
 
 // The marker that ends a transaction.
@@ -82,7 +82,8 @@ impl ControlBatchRecord {
         }
     }
 
-    // The record is judged first, up to the end of `s`, and then its key.
+    // The record is judged first, up to the end of `s`, and then its key. What has been judged is not refused when it is
+    // read for its key.
     fn read_keyed(s: &[u8], c: Cursor) -> ControlBatchRecordRead
         ensures { λ r. ⌜ ReadMarkerPromise ControlMode.Keyed (now (s .entry)) (c .at) r ⌝ }
     {
@@ -91,26 +92,28 @@ impl ControlBatchRecord {
                 records: _,
                 headers: _,
                 end,
-            } => match Record::find_key(c, s) {
-                SpanRead::Span(key, _) => ControlBatchRecord::in_key(s, key, end),
-                SpanRead::Null(_) => ControlBatchRecordRead::Refused(BatchFault::UnknownControl),
-                SpanRead::Refused(f) =>
+            } => match read_count(c, s) {
+                CountRead::Got(_, at_fields) => match Record::read(at_fields, s) {
+                    RecordRead::Got(record, _) => ControlBatchRecord::in_key(s, record.key, end),
+                    RecordRead::Refused(f) =>
+                        ControlBatchRecordRead::Refused(BatchFault::Body(RecordFault::Field(f))),
+                },
+                CountRead::Refused(f) =>
                     ControlBatchRecordRead::Refused(BatchFault::Body(RecordFault::Field(f))),
             },
             RecordsCheck::Refused(f) => ControlBatchRecordRead::Refused(BatchFault::Body(f)),
         }
     }
 
-    // The first four bytes of a key, of a record that ends at `end`.
-    fn in_key(s: &[u8], key: Span, end: usize) -> ControlBatchRecordRead
-        requires { ⌜ key .start + key .len ≤ length (now s) ⌝ }
-        ensures { λ r. ⌜ viewMarkerRead r ≡ markerInKey (now (s .entry)) (some (record { start = key .start; len = key .len })) end ⌝ }
+    // The first four bytes of a key, of a record that ends at `end`. A null key has the length -1.
+    fn in_key(s: &[u8], key: Place, end: usize) -> ControlBatchRecordRead
+        requires { ⌜ KeyPlace (now s) key ⌝ }
+        ensures { λ r. ⌜ viewMarkerRead r ≡ markerInKey (now (s .entry)) (keyOf key) end ⌝ }
     {
-        let len = key.len;
-        if len < 4 {
+        if key.len < 4 {
             return ControlBatchRecordRead::Refused(BatchFault::UnknownControl);
         }
-        let start = key.start;
+        let start = key.start as usize;
         let past = start + 4;
         match ControlBatchRecord::read_bare(&s[..past], Cursor { at: start }) {
             ControlBatchRecordRead::Got(marker, _) => ControlBatchRecordRead::Got(
@@ -131,6 +134,7 @@ impl ControlBatchRecord {
         }
     }
 
+    // All that is read is as it is written.
     fn bare_stands(s: &[u8], c: Cursor) -> bool
         ensures { λ r. ⌜ StandsPromise ControlMode.Bare (now (s .entry)) (c .at) r ⌝ }
     {
@@ -140,6 +144,7 @@ impl ControlBatchRecord {
         }
     }
 
+    // The bytes themselves: more is read than is written.
     fn record_stands(s: &[u8], at: usize) -> bool
         ensures { λ r. ⌜ StandsPromise ControlMode.Keyed (now (s .entry)) at r ⌝ }
     {

@@ -1,5 +1,5 @@
--- What document 01 answers of a batch that starts at a place of a list, where rows are enough: in its order and with
--- its numbers, the first fault first.
+-- What document 01, as C-16 has it, answers of a batch that starts at a place of a list, where rows are enough: in its
+-- order and with its numbers, the first fault first.
 use Prim.Native.Nat.{ℕ, zero, suc, _+_, _-_, _*_, _/_, _%_, _^_}
 use mathlib.Core.Bool.{Bool, true, false}
 use mathlib.Core.Option.{Option, none, some}

@@ -96,11 +96,7 @@ abbrev gotSpan : Option Span → ℕ → SpanRead
 gotSpan (some x) p = SpanRead.Span (record { start = x .start; len = x .len }) (record { at = p })
 gotSpan none p = SpanRead.Null (record { at = p })
 
--- whatever it is that the answer says
-pub single-span : (x : Step ℕ (Option Span)) → Single (λ (r : SpanRead). viewSpan r ≡ x)
-single-span x =
-    single-view viewSpan (back gotSpan SpanRead.Refused)
-    (λ r. elim r [ SpanRead.Span x c ↦ refl | SpanRead.Null c ↦ refl | SpanRead.Refused f ↦ ap SpanRead.Refused (fault-again f) ]) x
-
 pub single-read-span : (nullable : Bool) (s : List ℕ) (at : ℕ) → Single (ReadSpanPromise nullable s at)
-single-read-span nullable s at = single-span _
+single-read-span nullable s at =
+    single-view viewSpan (back gotSpan SpanRead.Refused)
+    (λ r. elim r [ SpanRead.Span x c ↦ refl | SpanRead.Null c ↦ refl | SpanRead.Refused f ↦ ap SpanRead.Refused (fault-again f) ]) _

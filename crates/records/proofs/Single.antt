@@ -10,7 +10,7 @@ use Rattle.numbers.specs.Pick.{pick}
 use Rattle.numbers.specs.Single.{Single}
 use Rattle.numbers.proofs.Single.{single-value, single-view}
 use Rattle.primitives.specs.Step.{Step, ok, no}
-use Rattle.primitives.proofs.Single.{fault-again, back, single-span}
+use Rattle.primitives.proofs.Single.{fault-again, back}
 use Rattle.records.specs.declared.RecordFault.{RecordFault}
 use Rattle.records.specs.declared.RecordFault.the-variants.{Field, KeyNotUtf8, BytesLeft}
 use Rattle.records.specs.declared.Place.{Place}
@@ -18,7 +18,7 @@ use Rattle.records.specs.declared.CountRead.{CountRead}
 use Rattle.records.specs.declared.RecordHeaderRead.{RecordHeaderRead}
 use Rattle.records.specs.declared.RecordRead.{RecordRead}
 use Rattle.records.specs.Answers.{recordNumberOf, viewCount, viewHeader, Heading, viewRecord}
-use Rattle.records.specs.Promises.{RecordNumberPromise, ReadCountPromise, ReadHeaderPromise, ReadRecordPromise, FindKeyPromise}
+use Rattle.records.specs.Promises.{RecordNumberPromise, ReadCountPromise, ReadHeaderPromise, ReadRecordPromise}
 
 pub single-record-number : (f : RecordFault) → Single (RecordNumberPromise f)
 single-record-number f = single-value _
@@ -73,6 +73,3 @@ pub single-read-record : (s : List ℕ) (at : ℕ) → Single (ReadRecordPromise
 single-read-record s at =
     single-view viewRecord (back recordGot RecordRead.Refused)
     (λ r. elim r [ RecordRead.Got h c ↦ refl | RecordRead.Refused f ↦ ap RecordRead.Refused (fault-again f) ]) _
-
-pub single-find-key : (s : List ℕ) (at : ℕ) → Single (FindKeyPromise s at)
-single-find-key s at = single-span _

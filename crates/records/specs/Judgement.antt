@@ -98,10 +98,6 @@ recordAt s at =
     andThen (countAt s at) (λ n p.
     andThen (fieldsAt (take (p + n) s) p) (λ r q. pick (eqb q (p + n)) (ok r q) (no 13)))
 
--- the key of a record, alone
-unfoldable pub recordKeyAt : List ℕ → ℕ → Step ℕ (Option Span)
-recordKeyAt s at = andThen (countAt s at) (λ _ p. andThen (deltasAt s p) (λ _ q. spanAt true s q))
-
 -- ---- records, one after the other
 
 unfoldable pub runAt : List ℕ → ℕ → ℕ → Step ℕ (List RecordSpans)

@@ -3,14 +3,12 @@
 use Prim.Native.Nat.{ℕ}
 use mathlib.Core.Path.{_≡_}
 use mathlib.Core.List.{List}
-use Rattle.primitives.specs.declared.SpanRead.{SpanRead}
 use Rattle.primitives.specs.Step.{mapStep}
-use Rattle.primitives.specs.Answers.{viewSpan}
 use Rattle.records.specs.declared.RecordFault.{RecordFault}
 use Rattle.records.specs.declared.CountRead.{CountRead}
 use Rattle.records.specs.declared.RecordHeaderRead.{RecordHeaderRead}
 use Rattle.records.specs.declared.RecordRead.{RecordRead}
-use Rattle.records.specs.Judgement.{countAt, headerAt, headAt, recordKeyAt}
+use Rattle.records.specs.Judgement.{countAt, headerAt, headAt}
 use Rattle.records.specs.Rows.{headerRow}
 use Rattle.records.specs.Answers.{recordNumberOf, viewCount, viewHeader, headingOf, viewRecord}
 
@@ -29,7 +27,3 @@ ReadHeaderPromise s at r = viewHeader r ≡ mapStep headerRow (headerAt s at)
 -- Record::read
 abbrev pub ReadRecordPromise : List ℕ → ℕ → RecordRead → Type 0
 ReadRecordPromise s at r = viewRecord r ≡ mapStep headingOf (headAt s at)
-
--- Record::find_key
-abbrev pub FindKeyPromise : List ℕ → ℕ → SpanRead → Type 0
-FindKeyPromise s at r = viewSpan r ≡ recordKeyAt s at

@@ -18,7 +18,7 @@ ghost use Rattle.records.specs.Judgement.{keyAt, deltasAt};
 ghost use Rattle.records.specs.Rows.{spanRow};
 ghost use Rattle.records.specs.Answers.{placeRow};
 ghost use Rattle.records.specs.Parts.{viewKey, bytesRow, viewPlace, viewDeltas};
-ghost use Rattle.records.specs.Promises.{RecordNumberPromise, ReadCountPromise, ReadHeaderPromise, ReadRecordPromise, FindKeyPromise};
+ghost use Rattle.records.specs.Promises.{RecordNumberPromise, ReadCountPromise, ReadHeaderPromise, ReadRecordPromise};
 
 // Why records are refused.
 pub enum RecordFault {
@@ -122,21 +122,6 @@ impl Record {
                 PlaceRead::Refused(f) => RecordRead::Refused(f),
             },
             DeltasRead::Refused(f) => RecordRead::Refused(f),
-        }
-    }
-}
-
-impl Record {
-    // The key of the record that stands at the cursor, alone.
-    pub fn find_key(c: Cursor, s: &[u8]) -> SpanRead
-        ensures { λ r. ⌜ FindKeyPromise (now (s .entry)) (c .at) r ⌝ }
-    {
-        match read_count(c, s) {
-            CountRead::Got(_, at_deltas) => match read_deltas(at_deltas, s) {
-                DeltasRead::Got(_, at_key) => at_key.read_span(s, true),
-                DeltasRead::Refused(f) => SpanRead::Refused(f),
-            },
-            CountRead::Refused(f) => SpanRead::Refused(f),
         }
     }
 }

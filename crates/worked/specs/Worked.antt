@@ -1,6 +1,6 @@
--- The worked batches (crates/examples) from end to end: what is read in their bytes, filled in, told, and written again;
--- and those of keyed mode (Keyed.antt). Each layer has the same of its own definitions in its own Worked.antt. What
--- proves each stands in proofs/ under the statement's name in small letters: `read-right : ReadRight`.
+-- The worked batches (crates/examples) from end to end: what is read in their bytes, filled in, told, and written
+-- again; and those of keyed mode (Keyed.antt). Each layer has the same of its own definitions in its own Worked.antt.
+-- What proves each stands in proofs/ under the statement's name in small letters: `read-right : ReadRight`.
 use Prim.Native.Nat.{ℕ, zero, suc, _+_, _-_}
 use mathlib.Core.Path.{_≡_}
 use mathlib.Core.Bool.{false}
@@ -101,8 +101,8 @@ ReadRefused = map (λ (e : Refusal). readWith ControlMode.Bare (e .bytes) lentAn
 abbrev refusedBy : ℕ → Example → Outcome
 refusedBy number e = dueRefusal (record { bytes = e .bytes; count = 0; number = number; needed = 0 })
 
--- No worked control batch of one mode is one of the other: alone a record's bytes are an unknown marker, and a marker is
--- a record of no bytes.
+-- No worked control batch of one mode is one of the other: alone a record's bytes are an unknown marker, and a marker
+-- is a record of no bytes.
 abbrev pub ReadApart : Type 0
 ReadApart =
     (map (λ (e : Example). readWith ControlMode.Bare (e .bytes) lentAnyway) keyedExamples ≡ map (refusedBy 12) keyedExamples)

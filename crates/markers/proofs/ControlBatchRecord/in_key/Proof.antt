@@ -1,19 +1,21 @@
 -- `markers::ControlBatchRecord::in_key` meets its contract. Assumes nothing.
-use native.Mathlib.Omega.{arith}
-use Rattle.opening.proofs.Judging.{cut-length}
-use Rattle.markers.proofs.KeyReading.{key-short, key-marks, key-unknown}
 use borrow.Author.Needs.{needs}
+use Rattle.opening.proofs.Judging.{cut-length}
+use Rattle.markers.proofs.KeyReading.{start-from-0, start-fits, past-fits, key-short, front-within, key-marks, key-unknown}
 use Rattle.markers.proofs.ControlBatchRecord.in_key.Statement.{statement}
 use Rattle.markers.proofs.ControlBatchRecord.in_key.Tie as tie
 
 returns : tie.Need-returns
-returns c = search key-short
+returns c = search (key-short, needs)
+
+cast-start : tie.Need-cast-start
+cast-start c = (search (start-from-0, needs), search (start-fits, needs))
 
 add-past : tie.Need-add-past
-add-past c = search needs
+add-past c = search (past-fits, needs)
 
 slice-aggregate-read-bare : tie.Need-slice-aggregate-read-bare
-slice-aggregate-read-bare c = cut-length _ _ (omega arith)
+slice-aggregate-read-bare c = search (cut-length, front-within, needs)
 
 read-bare-requires : tie.Need-read-bare-requires
 read-bare-requires c κs = search needs
@@ -35,6 +37,7 @@ in-key-spec =
     tie.close
     (tie.spec
     returns
+    cast-start
     add-past
     slice-aggregate-read-bare
     read-bare-requires

@@ -1,6 +1,6 @@
 -- `markers::ControlBatchRecord::read_keyed` meets its contract. Assumes nothing.
-use Rattle.markers.proofs.KeyReading.{record-refused, key-refused, key-null, key-within, key-read}
 use borrow.Author.Needs.{needs}
+use Rattle.markers.proofs.KeyReading.{record-refused, size-refused, head-refused, key-placed, key-read}
 use Rattle.markers.proofs.ControlBatchRecord.read_keyed.Statement.{statement}
 use Rattle.markers.proofs.ControlBatchRecord.read_keyed.Tie as tie
 
@@ -10,17 +10,20 @@ check-records-requires c κs = search needs
 enum-known-end : tie.Need-enum-known-end
 enum-known-end c = search needs
 
-find-key-requires : tie.Need-find-key-requires
-find-key-requires c κs = search needs
+read-count-requires : tie.Need-read-count-requires
+read-count-requires c κs = search needs
 
-enum-known-key : tie.Need-enum-known-key
-enum-known-key c = search needs
+enum-known-at-fields : tie.Need-enum-known-at-fields
+enum-known-at-fields c = search needs
+
+read-requires : tie.Need-read-requires
+read-requires c κs = search needs
+
+enum-known-record : tie.Need-enum-known-record
+enum-known-record c = search needs
 
 in-key-requires : tie.Need-in-key-requires
-in-key-requires c κs = search (key-within, needs)
-
-enum-told : tie.Need-enum-told
-enum-told c = search needs
+in-key-requires c κs = search (key-placed, needs)
 
 enum-known-f : tie.Need-enum-known-f
 enum-known-f c = search needs
@@ -28,14 +31,17 @@ enum-known-f c = search needs
 enum-known-f-2 : tie.Need-enum-known-f-2
 enum-known-f-2 c = search needs
 
+enum-known-f-3 : tie.Need-enum-known-f-3
+enum-known-f-3 c = search needs
+
 returns : tie.Need-returns
 returns c = search (key-read, needs)
 
 returns-2 : tie.Need-returns-2
-returns-2 c = search (key-null, needs)
+returns-2 c = search (head-refused, needs)
 
 returns-3 : tie.Need-returns-3
-returns-3 c = search (key-refused, needs)
+returns-3 c = search (size-refused, needs)
 
 returns-4 : tie.Need-returns-4
 returns-4 c = search (record-refused, needs)
@@ -46,12 +52,14 @@ read-keyed-spec =
     (tie.spec
     check-records-requires
     enum-known-end
-    find-key-requires
-    enum-known-key
+    read-count-requires
+    enum-known-at-fields
+    read-requires
+    enum-known-record
     in-key-requires
-    enum-told
     enum-known-f
     enum-known-f-2
+    enum-known-f-3
     returns
     returns-2
     returns-3

@@ -1,5 +1,4 @@
 -- `oddrafisk::asked::mode_of` meets its contract. Assumes nothing.
-use borrow.Author.Needs.{needs}
 use Rattle.oddrafisk.proofs.Tests.{mode-keyed, mode-bare}
 use Rattle.oddrafisk.proofs.asked.mode_of.Statement.{statement}
 use Rattle.oddrafisk.proofs.asked.mode_of.Tie as tie
