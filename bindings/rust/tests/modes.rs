@@ -2,7 +2,7 @@
 
 mod common;
 
-use common::{batch_with_body, keyed_marker, marker, one_record, repaired};
+use common::{batch_with_body, keyed_marker, marker, one_record, repaired, ZERO};
 use oddrafisk::{
     check, check_in, framed, is_canonical, is_canonical_in, Batch, BatchBuilder, ControlMode,
     Fields, Kind, Log, LogError, Marker, NewRecord, Outline, ReadError, Reader, Refusal,
@@ -146,22 +146,6 @@ fn bare_is_the_default() {
     );
 }
 
-/// Every field 0, as the batches of `common` have it.
-fn zero() -> Fields {
-    Fields {
-        base_offset: 0,
-        partition_leader_epoch: 0,
-        last_offset_delta: 0,
-        first_timestamp: 0,
-        max_timestamp: 0,
-        producer_id: 0,
-        producer_epoch: 0,
-        base_sequence: 0,
-        timestamp_type: TimestampType::CreateTime,
-        is_transactional: false,
-    }
-}
-
 #[test]
 fn markers_have_the_bytes_of_their_form() {
     for (kind, control_type) in [(Marker::Abort, 0), (Marker::Commit, 1)] {
@@ -171,23 +155,23 @@ fn markers_have_the_bytes_of_their_form() {
         ] {
             let written = kind.in_mode(mode);
             assert_eq!(written.measure(), bytes.len());
-            assert_eq!(written.to_vec(&zero()), bytes);
+            assert_eq!(written.to_vec(&ZERO), bytes);
             let mut log = vec![0xAA];
-            assert_eq!(written.append_to(&zero(), &mut log), bytes.len());
+            assert_eq!(written.append_to(&ZERO, &mut log), bytes.len());
             assert_eq!(log, [&[0xAA], &bytes[..]].concat());
             let mut output = [0xAA; 75];
-            assert_eq!(written.write(&zero(), &mut output), Ok(bytes.len()));
+            assert_eq!(written.write(&ZERO, &mut output), Ok(bytes.len()));
             assert_eq!(output[..bytes.len()], bytes);
             assert!(output[bytes.len()..].iter().all(|byte| *byte == 0xAA));
             let mut short = vec![0xAA; bytes.len() - 1];
             assert_eq!(
-                written.write(&zero(), &mut short),
+                written.write(&ZERO, &mut short),
                 Err(WriteRefusal::ShortOutput)
             );
             assert!(short.iter().all(|byte| *byte == 0xAA));
         }
     }
-    let checksum = &Marker::Abort.in_mode(Keyed).to_vec(&zero())[17..21];
+    let checksum = &Marker::Abort.in_mode(Keyed).to_vec(&ZERO)[17..21];
     assert_eq!(checksum, [0xEC, 0xE5, 0x1F, 0xAE]);
 }
 

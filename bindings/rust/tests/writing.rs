@@ -2,24 +2,10 @@
 
 mod common;
 
-use common::{batch_with_body, marker, one_record, repaired};
+use common::{batch_with_body, marker, one_record, repaired, ZERO};
 use oddrafisk::{
     is_canonical, Batch, BatchBuilder, Fields, Kind, Log, Marker, NewRecord, PushRefusal,
     TimestampType, WriteRefusal,
-};
-
-/// Every field 0, as the batches of `common` have it.
-const ZERO: Fields = Fields {
-    base_offset: 0,
-    partition_leader_epoch: 0,
-    last_offset_delta: 0,
-    first_timestamp: 0,
-    max_timestamp: 0,
-    producer_id: 0,
-    producer_epoch: 0,
-    base_sequence: 0,
-    timestamp_type: TimestampType::CreateTime,
-    is_transactional: false,
 };
 
 /// Every field at an end of its range.

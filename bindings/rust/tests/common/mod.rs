@@ -1,4 +1,6 @@
-//! Batches put together from bytes, by document 01's table and not by the writer.
+//! Batches put together from bytes, by document 01's table and not by the writer, and fields.
+
+use oddrafisk::{Fields, TimestampType};
 
 /// The checksum of places 21 and on, put where it belongs.
 pub fn repaired(mut bytes: Vec<u8>) -> Vec<u8> {
@@ -33,3 +35,18 @@ pub fn marker(control_type: u8) -> Vec<u8> {
 pub fn keyed_marker(control_type: u8) -> Vec<u8> {
     batch_with_body(0x20, 1, &[0x14, 0, 0, 0, 8, 0, 0, 0, control_type, 1, 0])
 }
+
+/// Every field 0, as these batches have it.
+#[allow(dead_code)]
+pub const ZERO: Fields = Fields {
+    base_offset: 0,
+    partition_leader_epoch: 0,
+    last_offset_delta: 0,
+    first_timestamp: 0,
+    max_timestamp: 0,
+    producer_id: 0,
+    producer_epoch: 0,
+    base_sequence: 0,
+    timestamp_type: TimestampType::CreateTime,
+    is_transactional: false,
+};
