@@ -8,10 +8,18 @@ use native.Mathlib.Decide.{decLt}
 use lib.ListN.{length, getD, drop, length-drop}
 use lib.Seq.{ext-getD, getD-drop, drop-length}
 use Rattle.numbers.specs.Exactly.{Exactly}
+use Rattle.primitives.specs.declared.Cursor.{Cursor}
+use Rattle.primitives.specs.Step.{ok}
 use Rattle.primitives.specs.Stands.{Stands}
+use Rattle.primitives.proofs.Steps.{ok-not-no}
 use Rattle.primitives.proofs.Places.{all-left}
 use Rattle.layout.specs.declared.ControlMode.{ControlMode}
-use Rattle.layout.specs.Batch.{Marker, abort, commit}
+use Rattle.layout.specs.Batch.{Marker}
+use Rattle.opening.specs.declared.BatchFault.{BatchFault}
+use Rattle.opening.specs.Judgement.{wayOf}
+use Rattle.markers.specs.declared.ControlBatchRecord.{ControlBatchRecord}
+use Rattle.markers.specs.declared.ControlBatchRecordRead.{ControlBatchRecordRead}
+use Rattle.markers.specs.Markers.{viewMarker, viewMarkerRead}
 use Rattle.markers.specs.Forms.{writesOf}
 use Rattle.markers.specs.Promises.{StandsAlone, StandsPromise}
 use Rattle.markers.proofs.Keyed.{keyed-lawful}
@@ -64,19 +72,27 @@ module _ (s : List ℕ) (at : ℕ) where
   alone-written : (x : StandsAlone ControlMode.Keyed s at) → Stands s at (length s) (writesOf ControlMode.Keyed (x .0))
   alone-written (m, x) = subst (Stands s at (length s)) (keyed-lawful .strict (x .bytes) m .0 (x .encodes)) (x .stands)
 
-  module _ (a : List ℕ) (e : a ≡ writesOf ControlMode.Keyed abort) (x : Bool) (f : Exactly (x ≡ true) (Stands s at (length s) a)) where
-    pub abort-stands : x ≡ true → StandsPromise ControlMode.Keyed s at true
-    abort-stands h = (λ _. written-alone abort (subst (Stands s at (length s)) e (f .0 h)), λ _. refl)
+  -- what stands there as it is written is read
+  alone-read : (x : StandsAlone ControlMode.Keyed s at) → wayOf ControlMode.Keyed s at ≡ ok (x .0) (length s)
+  alone-read (m, x) = keyed-lawful .complete true s at (x .bytes) m (x .stands) (x .encodes)
 
-    pub commit-stands : x ≡ false → (b : List ℕ) → b ≡ writesOf ControlMode.Keyed commit → (y : Bool) → Exactly (y ≡ true) (Stands s at (length s) b)
-        → StandsPromise ControlMode.Keyed s at y
-    commit-stands h b i y g = (λ t. written-alone commit (subst (Stands s at (length s)) i (g .0 t)), λ z. by (z .0) (alone-written z))
-      where
-        by : (m : Marker) → Stands s at (length s) (writesOf ControlMode.Keyed m) → y ≡ true
-        by abort z =
-            let w : _≡_ {A = Bool} true false = sym (f .1 (subst (Stands s at (length s)) (sym e) z)) ∙ h in
-            absurd (let v : _≡_ {A = ℕ} 0 1 = cc in omega arith)
-        by commit z = g .1 (subst (Stands s at (length s)) (sym i) z)
+  module _ (a : ControlBatchRecordRead) (e : viewMarkerRead a ≡ wayOf ControlMode.Keyed s at) where
+    pub unread-stands-not : (f : BatchFault) → a ≡ ControlBatchRecordRead.Refused f → StandsPromise ControlMode.Keyed s at false
+    unread-stands-not f g = (
+      λ h. absurd (let v : _≡_ {A = ℕ} 0 1 = cc in omega arith),
+      λ x. absurd (ok-not-no (sym (alone-read x) ∙ sym e ∙ ap viewMarkerRead g)),
+    )
+
+    pub read-stands : (m : ControlBatchRecord) (c : Cursor) → a ≡ ControlBatchRecordRead.Got m c → (bytes : List ℕ)
+        → bytes ≡ writesOf ControlMode.Keyed (viewMarker m) → (r : Bool) → Exactly (r ≡ true) (Stands s at (length s) bytes)
+        → StandsPromise ControlMode.Keyed s at r
+    read-stands m c g bytes i r (told, tells) = (
+      λ t. written-alone (viewMarker m) (subst (Stands s at (length s)) i (told t)),
+      λ x.
+          let both : ok (viewMarker m) (c .at) ≡ ok (x .0) (length s) = sym (ap viewMarkerRead g) ∙ e ∙ alone-read x in
+          let same : viewMarker m ≡ x .0 = cc in
+          tells (subst (Stands s at (length s)) (ap (writesOf ControlMode.Keyed) (sym same) ∙ sym i) (alone-written x)),
+    )
 
 -- ---- by the mode
 

@@ -130,7 +130,7 @@ impl ControlBatchRecord {
     {
         match mode {
             ControlMode::Bare => ControlBatchRecord::bare_stands(s, c),
-            ControlMode::Keyed => ControlBatchRecord::record_stands(s, c.at),
+            ControlMode::Keyed => ControlBatchRecord::keyed_stands(s, c),
         }
     }
 
@@ -144,18 +144,17 @@ impl ControlBatchRecord {
         }
     }
 
-    // The bytes themselves: more is read than is written.
-    fn record_stands(s: &[u8], at: usize) -> bool
-        ensures { λ r. ⌜ StandsPromise ControlMode.Keyed (now (s .entry)) at r ⌝ }
+    // More is read than is written, so what is read has to stand there as it is written.
+    fn keyed_stands(s: &[u8], c: Cursor) -> bool
+        ensures { λ r. ⌜ StandsPromise ControlMode.Keyed (now (s .entry)) (c .at) r ⌝ }
     {
-        let abort = ControlBatchRecord::Abort;
-        let abort = abort.record_bytes();
-        if stand(&abort, s, at) {
-            return true;
+        match ControlBatchRecord::read_keyed(s, c) {
+            ControlBatchRecordRead::Got(marker, _) => {
+                let bytes = marker.record_bytes();
+                stand(&bytes, s, c.at)
+            }
+            ControlBatchRecordRead::Refused(_) => false,
         }
-        let commit = ControlBatchRecord::Commit;
-        let commit = commit.record_bytes();
-        stand(&commit, s, at)
     }
 
     // Writes it from `at` on, as far as the output goes, and gives the place after it.

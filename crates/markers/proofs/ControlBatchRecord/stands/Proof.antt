@@ -13,8 +13,8 @@ bare-stands-requires c κs = search needs
 enum-told-2 : tie.Need-enum-told-2
 enum-told-2 c = search needs
 
-record-stands-requires : tie.Need-record-stands-requires
-record-stands-requires c κs = search needs
+keyed-stands-requires : tie.Need-keyed-stands-requires
+keyed-stands-requires c κs = search needs
 
 returns : tie.Need-returns
 returns c = search stands-by
@@ -25,4 +25,4 @@ returns-2 c = search stands-by
 pub stands-spec : {M : Type 1} → statement M
 stands-spec =
     tie.close
-    (tie.spec enum-told bare-stands-requires enum-told-2 record-stands-requires returns returns-2)
+    (tie.spec enum-told bare-stands-requires enum-told-2 keyed-stands-requires returns returns-2)
