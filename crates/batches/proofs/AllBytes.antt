@@ -13,7 +13,7 @@ use Rattle.records.specs.Statements.{Each}
 use Rattle.records.proofs.AllBytes.{records-bytes, shown-of-bytes}
 use Rattle.layout.specs.Table.{uncountedFields, uncheckedFields, checkedFields}
 use Rattle.layout.specs.Batch.{Content, control, records, Batch}
-use Rattle.layout.specs.Format.{ContentBytes, BatchBytes}
+use Rattle.layout.specs.Format.{grammarOf, ContentBytes, Grammar, BatchBytesWith}
 use Rattle.layout.specs.declared.ControlMode.{ControlMode}
 use Rattle.markers.proofs.Forms.{forms-lawful}
 use Rattle.batches.specs.Placed.{shownContent}
@@ -23,13 +23,13 @@ unfolding Each concat
 concat-bytes [] each = no-bytes
 concat-bytes (x ∷ rest) (b, each) = joined-bytes x (concat rest) b (concat-bytes rest each)
 
-pub content-bytes : (mode : ControlMode) (s bs : List ℕ) (c : Content RecordSpans) → Bytes s → ContentBytes mode true bs (shownContent s c) → Bytes bs
+pub content-bytes : (mode : ControlMode) (s bs : List ℕ) (c : Content RecordSpans) → Bytes s → ContentBytes (grammarOf mode) true bs (shownContent s c) → Bytes bs
 content-bytes mode s bs (control m) b g =
     let form = forms-lawful mode in
     subst Bytes (sym (form .strict bs m .0 g)) (form .bytes m)
 content-bytes mode s bs (records rs) b g = records-bytes g (shown-of-bytes s b rs)
 
-module _ {mode : ControlMode} {strict : Bool} {bs : List ℕ} {b : Batch Record} (g : BatchBytes mode strict bs b) (body : Bytes (g .body)) where
+module _ {grammar : Grammar} {strict : Bool} {bs : List ℕ} {b : Batch Record} (g : BatchBytesWith grammar strict bs b) (body : Bytes (g .body)) where
   checked-bytes : Bytes (g .checked)
   unfolding Each
   checked-bytes =

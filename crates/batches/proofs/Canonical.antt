@@ -48,7 +48,7 @@ strict-canonical mode s b bytes g =
       batch = placedBatch 0 0 g;
       judged = judged;
       whole = refl;
-      rewritten = own-tables-given o ∙ ap given (ap (writtenBatch mode) shows ∙ sym (batch-written g));
+      rewritten = own-tables-given o ∙ ap given (ap (writtenBatch mode) shows ∙ sym (batch-written mode g));
     }
 
 pub canonical-is-strict : (mode : ControlMode) (s : List ℕ) → Bytes s → Exactly (Canonical mode s) ((b : Batch Record) × BatchBytes mode true s b)

@@ -20,28 +20,28 @@ use Rattle.records.proofs.Complete.{records-complete}
 use Rattle.records.proofs.Shows.{records-shows}
 use Rattle.layout.specs.Table.{table}
 use Rattle.layout.specs.Batch.{Content, control, records, Batch}
-use Rattle.layout.specs.Format.{howMany, Counts, exactly, minusOne, ContentBytes, BatchBytes}
-use Rattle.opening.specs.Judgement.{wayOf, accepted, Attributes, numberIn, attributesIn, fieldsIn, totalAt, openedAt, contentAt, wholeAt, judgeWith, apart}
+use Rattle.layout.specs.Format.{Grammar, grammarOf, howMany, Counts, exactly, minusOne, ContentBytes, BatchBytesWith}
+use Rattle.opening.specs.Judgement.{Control, wayOf, accepted, Attributes, numberIn, attributesIn, fieldsIn, totalAt, openedAt, contentAt, wholeAt, judgeWith, apart}
 use Rattle.opening.proofs.Tests.{Says, there, opened, total-is, opening-is}
-use Rattle.layout.specs.declared.ControlMode.{ControlMode}
+use Rattle.markers.specs.Forms.{Reads}
 use Rattle.markers.proofs.Forms.{forms-lawful}
 use Rattle.batches.specs.Placed.{placedContent, placedBatch, shownContent}
-use Rattle.batches.specs.Statements.{Complete}
+use Rattle.batches.specs.Statements.{Complete, CompleteWith}
 use Rattle.batches.proofs.Apart.{controls, saidBy, attributes-apart}
 use Rattle.batches.proofs.Parts.{parts-stand, fixed-there, counted-enough, ends}
 
 -- ---- the marker, or the records
 
-content-reads : (mode : ControlMode) (strict : Bool) {s : List ℕ} {p : ℕ} {bs : List ℕ} (c : Content Record) → Stands s p (length s) bs
-    → (g : ContentBytes mode strict bs c)
-    → contentAt (wayOf mode) (controls c) s (howMany c) p ≡ ok (placedContent mode strict bs c p g) (length s)
-content-reads mode strict {s} {p} {bs} (control m) x g = rw (forms-lawful mode .complete strict s p bs m x g)
-content-reads mode strict {s} {p} {bs} (records rs) x g = rw (records-complete strict s p bs rs x g .0)
+content-reads : {grammar : Grammar} {way : Control} → Reads grammar way → (strict : Bool) {s : List ℕ} {p : ℕ} {bs : List ℕ} (c : Content Record) → Stands s p (length s) bs
+    → (g : ContentBytes grammar strict bs c)
+    → contentAt way (controls c) s (howMany c) p ≡ ok (placedContent grammar strict bs c p g) (length s)
+content-reads reads strict {s} {p} {bs} (control m) x g = rw (reads .complete strict s p bs m x g)
+content-reads reads strict {s} {p} {bs} (records rs) x g = rw (records-complete strict s p bs rs x g .0)
 
-content-shows : (mode : ControlMode) (strict : Bool) {s : List ℕ} {p q : ℕ} {bs : List ℕ} (c : Content Record) → Stands s p q bs → (g : ContentBytes mode strict bs c)
-    → shownContent s (placedContent mode strict bs c p g) ≡ c
-content-shows mode strict (control m) x g = refl
-content-shows mode strict (records rs) x g = ap records (records-shows x g)
+content-shows : (grammar : Grammar) (strict : Bool) {s : List ℕ} {p q : ℕ} {bs : List ℕ} (c : Content Record) → Stands s p q bs
+    → (g : ContentBytes grammar strict bs c) → shownContent s (placedContent grammar strict bs c p g) ≡ c
+content-shows grammar strict (control m) x g = refl
+content-shows grammar strict (records rs) x g = ap records (records-shows x g)
 
 -- ---- the tests before them
 
@@ -54,7 +54,8 @@ one-marker : {R : Type 0} (c : Content R) {t : Bool} → t ≡ controls c → ((
 one-marker (control m) e = inl (e, refl)
 one-marker (records rs) e = inr e
 
-module _ {mode : ControlMode} {strict : Bool} {s : List ℕ} {at q : ℕ} {bs : List ℕ} {b : Batch Record} (x : Stands s at q bs) (g : BatchBytes mode strict bs b) where
+module _ {grammar : Grammar} {strict : Bool} {s : List ℕ} {at q : ℕ} {bs : List ℕ} {b : Batch Record} (x : Stands s at q bs)
+    (g : BatchBytesWith grammar strict bs b) where
   total-reads : totalAt s at ≡ accepted (length bs)
   total-reads =
       let y = parts-stand x g in
@@ -94,25 +95,28 @@ module _ {mode : ControlMode} {strict : Bool} {s : List ℕ} {at q : ℕ} {bs : 
 
 -- ---- the batch's own bytes, which end where the list ends
 
-whole-reads : {mode : ControlMode} {strict : Bool} {s : List ℕ} {at : ℕ} {bs : List ℕ} {b : Batch Record} (first : ℕ) → Stands s at (length s) bs
-    → (g : BatchBytes mode strict bs b)
-    → wholeAt (wayOf mode) s at first (length bs) ≡ ok (placedBatch at first g) (length s)
+whole-reads : {grammar : Grammar} {way : Control} → Reads grammar way → {strict : Bool} {s : List ℕ} {at : ℕ} {bs : List ℕ} {b : Batch Record} (first : ℕ)
+    → Stands s at (length s) bs → (g : BatchBytesWith grammar strict bs b)
+    → wholeAt way s at first (length bs) ≡ ok (placedBatch at first g) (length s)
 unfolding wholeAt
-whole-reads {mode} {strict} {s} {at} {bs} {b} first x g =
+whole-reads reads {strict} {s} {at} {bs} {b} first x g =
     let y = parts-stand x g in
     rw (
       eq-eqb _ _ (y .crc ∙ ap crc32c (sym (all-left (y .checked)))),
       opening-reads x g,
       fields-read x g,
       control-read x g,
-      content-reads mode strict (b .content) (y .body) (g .holds),
+      content-reads reads strict (b .content) (y .body) (g .holds),
     )
 
-pub complete : Complete
+pub complete-with : CompleteWith
 unfolding judgeWith
-complete mode strict s at first q bs b x g =
+complete-with grammar way reads strict s at first q bs b x g =
     let e : at + length bs ≡ q = sym (x .end) in
     let w = length-take-le q s (x .within) in
     let z : Stands (take q s) at (length (take q s)) bs = rw w (inside q x (omega arith)) in
-    let shows = content-shows mode strict (b .content) (parts-stand x g .body) (g .holds) in
-    (rw (total-reads x g, e, whole-reads first z g), λ i. record { fields = b .fields; content = shows i })
+    let shows = content-shows grammar strict (b .content) (parts-stand x g .body) (g .holds) in
+    (rw (total-reads x g, e, whole-reads reads first z g), λ i. record { fields = b .fields; content = shows i })
+
+pub complete : Complete
+complete mode = complete-with (grammarOf mode) (wayOf mode) (forms-lawful mode .reads)

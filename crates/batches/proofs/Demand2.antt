@@ -15,7 +15,7 @@ use Rattle.records.specs.Format.{Record}
 use Rattle.records.specs.Judgement.{RecordSpans}
 use Rattle.layout.specs.declared.ControlMode.{ControlMode}
 use Rattle.layout.specs.Batch.{Content, control, records, Batch}
-use Rattle.layout.specs.Format.{BatchBytes, ContentBytes}
+use Rattle.layout.specs.Format.{grammarOf, BatchBytes, ContentBytes}
 use Rattle.opening.specs.Judgement.{Judgement, more, refused, accepted, Accepted, wayOf, judge}
 use Rattle.batches.specs.Placed.{placedContent, placedBatch, shownContent, shownBatch}
 use Rattle.batches.specs.Answers.{Standing, Answer, accepts, refuses, viewCheck, viewRead, kindOf, recordsIn, headersOf, acceptedAs, answerWithRoom, roomsOf, hasRoom, answerOf, stored}
@@ -42,8 +42,8 @@ shown-kind : (s : List ℕ) (c : Content RecordSpans) → kindOf (shownContent s
 shown-kind s (control m) = refl
 shown-kind s (records rs) = refl
 
-placed-kind : (mode : ControlMode) (strict : Bool) (bs : List ℕ) (c : Content Record) (p : ℕ) (g : ContentBytes mode strict bs c)
-    → kindOf (placedContent mode strict bs c p g) ≡ kindOf c
+placed-kind : (mode : ControlMode) (strict : Bool) (bs : List ℕ) (c : Content Record) (p : ℕ) (g : ContentBytes (grammarOf mode) strict bs c)
+    → kindOf (placedContent (grammarOf mode) strict bs c p g) ≡ kindOf c
 placed-kind mode strict bs (control m) p g = refl
 placed-kind mode strict bs (records rs) p g = refl
 

@@ -23,7 +23,7 @@ use Rattle.records.specs.Written.{writtenFields, writtenRecord, writtenRecords}
 use Rattle.records.proofs.Encodes.{written-length, run-encodes}
 use Rattle.layout.specs.Table.{FixedFields, unchecked, fixedChecked, uncheckedFields, checkedFields}
 use Rattle.layout.specs.Batch.{Fields, Content, control, records, Batch}
-use Rattle.layout.specs.Format.{attributesOf, howMany, Counts, ContentBytes, BatchBytes}
+use Rattle.layout.specs.Format.{grammarOf, attributesOf, howMany, Counts, ContentBytes, BatchBytes}
 use Rattle.layout.proofs.Flags.{timestamp-small, bit-small, control-small}
 use Rattle.layout.specs.declared.ControlMode.{ControlMode}
 use Rattle.markers.proofs.Forms.{forms-lawful}
@@ -40,7 +40,7 @@ abbrev pub WritableContent : Content Record → Type 0
 WritableContent (control m) = Unit {0}
 WritableContent (records rs) = Each Writable rs
 
-content-encodes : (mode : ControlMode) (c : Content Record) → WritableContent c → ContentBytes mode true (writtenContent mode c) c
+content-encodes : (mode : ControlMode) (c : Content Record) → WritableContent c → ContentBytes (grammarOf mode) true (writtenContent mode c) c
 unfolding writtenContent
 content-encodes mode (control m) w = forms-lawful mode .strict (writesOf mode m) m .1 refl
 content-encodes mode (records rs) w = run-encodes true rs w

@@ -16,7 +16,7 @@ use Rattle.records.specs.Format.{Record}
 use Rattle.records.proofs.Written.{run-written}
 use Rattle.records.proofs.Shortest.{run-shortest}
 use Rattle.layout.specs.Batch.{Content, control, records, Batch}
-use Rattle.layout.specs.Format.{Counts, exactly, ContentBytes, BatchBytes}
+use Rattle.layout.specs.Format.{grammarOf, Counts, exactly, ContentBytes, BatchBytes}
 use Rattle.layout.specs.declared.ControlMode.{ControlMode}
 use Rattle.markers.proofs.Forms.{forms-lawful}
 use Rattle.batches.specs.Writer.{writtenContent, checkedBytes, batchLengthOf, writtenBatch, mostLength}
@@ -27,7 +27,7 @@ use Rattle.batches.proofs.Sizes.{body-rest}
 
 -- ---- the only one
 
-content-written : (mode : ControlMode) (bs : List ℕ) (c : Content Record) → ContentBytes mode true bs c → bs ≡ writtenContent mode c
+content-written : (mode : ControlMode) (bs : List ℕ) (c : Content Record) → ContentBytes (grammarOf mode) true bs c → bs ≡ writtenContent mode c
 unfolding writtenContent
 content-written mode bs (control m) g = forms-lawful mode .strict bs m .0 g
 content-written mode bs (records rs) g = run-written bs rs g
@@ -35,7 +35,7 @@ content-written mode bs (records rs) g = run-written bs rs g
 pub exact-count : {z : ℤ} {n : ℕ} → Counts true z n → z ≡ pos n
 exact-count exactly = refl
 
-module _ {mode : ControlMode} {bs : List ℕ} {b : Batch Record} (g : BatchBytes mode true bs b) where
+module _ (mode : ControlMode) {bs : List ℕ} {b : Batch Record} (g : BatchBytes mode true bs b) where
   checked-written : g .checked ≡ checkedBytes mode b
   unfolding checkedBytes
   checked-written =
@@ -70,18 +70,18 @@ module _ {mode : ControlMode} {bs : List ℕ} {b : Batch Record} (g : BatchBytes
       g .is ∙ (λ i. concat (g .baseOffset .is i ∷ batchLength i ∷ []) ++ counted i)
 
 pub written-only : WrittenOnly
-written-only mode bs bs′ b g h = batch-written g ∙ sym (batch-written h)
+written-only mode bs bs′ b g h = batch-written mode g ∙ sym (batch-written mode h)
 
 -- ---- the shortest
 
-content-shortest : (mode : ControlMode) (strict : Bool) (bs : List ℕ) (c : Content Record) → ContentBytes mode strict bs c → length (writtenContent mode c) ≤ length bs
+content-shortest : (mode : ControlMode) (strict : Bool) (bs : List ℕ) (c : Content Record) → ContentBytes (grammarOf mode) strict bs c → length (writtenContent mode c) ≤ length bs
 unfolding writtenContent
 content-shortest mode strict bs (control m) g = forms-lawful mode .shortest strict bs m g
 content-shortest mode strict bs (records rs) g = run-shortest strict bs rs g
 
 -- so a batch that has an encoding is not too long to be written
-pub batch-short : {mode : ControlMode} {strict : Bool} {bs : List ℕ} {b : Batch Record} → BatchBytes mode strict bs b → batchLengthOf mode b ≤ mostLength
-batch-short {mode} {strict} {bs} {b} g =
+pub batch-short : (mode : ControlMode) {strict : Bool} {bs : List ℕ} {b : Batch Record} → BatchBytes mode strict bs b → batchLengthOf mode b ≤ mostLength
+batch-short mode {strict} {bs} {b} g =
     omega (
       arith,
       content-length mode b,

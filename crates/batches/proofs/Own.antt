@@ -21,7 +21,7 @@ use Rattle.asking.specs.Asked.{RowPlace, rowPlace}
 use Rattle.asking.proofs.Own.{own-rows}
 use Rattle.writing.specs.Answers.{given}
 use Rattle.layout.specs.Batch.{Content, control, records, Batch}
-use Rattle.layout.specs.Format.{ContentBytes, BatchBytes}
+use Rattle.layout.specs.Format.{grammarOf, ContentBytes, BatchBytes, Grammar, BatchBytesWith}
 use Rattle.opening.specs.Judgement.{accepted, Accepted, judge}
 use Rattle.layout.specs.declared.ControlMode.{ControlMode}
 use Rattle.batches.specs.Placed.{placedContent, shownContent, shownBatch}
@@ -42,12 +42,12 @@ abbrev ContentInside : List ℕ → Content RecordSpans → Type 0
 ContentInside s (control m) = Unit {0}
 ContentInside s (records rs) = Each (RecordInside s) rs
 
-content-inside : (mode : ControlMode) (strict : Bool) {s : List ℕ} {p q : ℕ} {bs : List ℕ} (v : Content Record) → Stands s p q bs → (g : ContentBytes mode strict bs v)
-    → ContentInside s (placedContent mode strict bs v p g)
+content-inside : (mode : ControlMode) (strict : Bool) {s : List ℕ} {p q : ℕ} {bs : List ℕ} (v : Content Record) → Stands s p q bs → (g : ContentBytes (grammarOf mode) strict bs v)
+    → ContentInside s (placedContent (grammarOf mode) strict bs v p g)
 content-inside mode strict (control m) x g = tt
 content-inside mode strict (records rs) x g = records-inside x g
 
-content-writable : (mode : ControlMode) (strict : Bool) (bs : List ℕ) (v : Content Record) → ContentBytes mode strict bs v → WritableContent v
+content-writable : (mode : ControlMode) (strict : Bool) (bs : List ℕ) (v : Content Record) → ContentBytes (grammarOf mode) strict bs v → WritableContent v
 content-writable mode strict bs (control m) g = tt
 content-writable mode strict bs (records rs) g = run-writable strict bs rs g
 
@@ -64,7 +64,7 @@ pub record Own (mode : ControlMode) (s : List ℕ) (b : Accepted) : Type 0 where
   pub within : length (rewritten mode s b) ≤ b .consumed
   pub first : b .firstHeader ≡ 0
 
-pub in-width : {mode : ControlMode} {strict : Bool} {bs : List ℕ} {b : Batch Record} → BatchBytes mode strict bs b → InWidth (b .fields)
+pub in-width : {grammar : Grammar} {strict : Bool} {bs : List ℕ} {b : Batch Record} → BatchBytesWith grammar strict bs b → InWidth (b .fields)
 in-width g =
     record {
       baseOffset = g .baseOffset .fits;
@@ -84,12 +84,12 @@ own mode s b bytes j =
     let g = e .encodes in
     let content = shownContent s (b .content) in
     let again =
-    shown-encodes mode s (b .fields) (b .content) bytes (content-writable mode false (g .body) content (g .holds)) (in-width g) (batch-short g) in
+    shown-encodes mode s (b .fields) (b .content) bytes (content-writable mode false (g .body) content (g .holds)) (in-width g) (batch-short mode g) in
     record {
       inside =
           subst (ContentInside s) (ap (λ (a : Accepted). a .content) (sym is))
           (content-inside mode false content (parts-stand x g .body) (g .holds));
-      short = batch-short g;
+      short = batch-short mode g;
       encodes = again;
       within = omega (arith, written-shortest mode false _ _ _ again g, x .end);
       first = ap (λ (a : Accepted). a .firstHeader) is;

@@ -19,9 +19,8 @@ use Rattle.crc32c.specs.Crc.{crc32c}
 use Rattle.records.specs.Format.{Record}
 use Rattle.layout.specs.Table.{Slot, table, uncounted, unchecked, fixedPart}
 use Rattle.layout.specs.Batch.{Batch}
-use Rattle.layout.specs.Format.{attributesOf, BatchBytes}
+use Rattle.layout.specs.Format.{Grammar, attributesOf, BatchBytesWith}
 use Rattle.opening.specs.Judgement.{unsignedIn, numberIn}
-use Rattle.layout.specs.declared.ControlMode.{ControlMode}
 
 -- ---- fields that stand one after the other: the first, and those after it
 
@@ -64,7 +63,7 @@ module _ {s : List ℕ} {at q : ℕ} {bs : List ℕ} {rest : List (List ℕ)} {a
 
 -- ---- all of them
 
-module _ {mode : ControlMode} {strict : Bool} {bs : List ℕ} {b : Batch Record} (s : List ℕ) (at q : ℕ) (g : BatchBytes mode strict bs b) where
+module _ {grammar : Grammar} {strict : Bool} {bs : List ℕ} {b : Batch Record} (s : List ℕ) (at q : ℕ) (g : BatchBytesWith grammar strict bs b) where
   pub record PartsStand : Type 0 where
     pub baseOffset : numberIn (table .baseOffset) s at ≡ b .fields .baseOffset
     pub batchLength : numberIn (table .batchLength) s at ≡ pos (length (g .counted))
@@ -83,8 +82,8 @@ module _ {mode : ControlMode} {strict : Bool} {bs : List ℕ} {b : Batch Record}
     pub checked : Stands s (at + (uncounted + unchecked)) q (g .checked)
     pub body : Stands s (at + fixedPart) q (g .body)
 
-pub parts-stand : {mode : ControlMode} {strict : Bool} {s : List ℕ} {at q : ℕ} {bs : List ℕ} {b : Batch Record} → Stands s at q bs
-    → (g : BatchBytes mode strict bs b) → PartsStand s at q g
+pub parts-stand : {grammar : Grammar} {strict : Bool} {s : List ℕ} {at q : ℕ} {bs : List ℕ} {b : Batch Record} → Stands s at q bs
+    → (g : BatchBytesWith grammar strict bs b) → PartsStand s at q g
 parts-stand {s = s} {at} {q} {bs} x g =
     let start = subst (λ (p : ℕ). Stands s p q bs) (sym (add-zero at)) x in
     let (baseOffset, l) = number-next (table .baseOffset) (left start (g .is)) (g .baseOffset) (omega arith) in
@@ -124,7 +123,7 @@ parts-stand {s = s} {at} {q} {bs} x g =
 
 -- ---- how many bytes there are
 
-module _ {mode : ControlMode} {strict : Bool} {s : List ℕ} {at q : ℕ} {bs : List ℕ} {b : Batch Record} (x : Stands s at q bs) (g : BatchBytes mode strict bs b) where
+module _ {grammar : Grammar} {strict : Bool} {s : List ℕ} {at q : ℕ} {bs : List ℕ} {b : Batch Record} (x : Stands s at q bs) (g : BatchBytesWith grammar strict bs b) where
   pub fixed-there : at + fixedPart ≤ length s
   fixed-there = let y = parts-stand x g .body in omega (arith, y .end, y .within)
 

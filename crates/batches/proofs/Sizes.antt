@@ -12,7 +12,7 @@ use Rattle.records.specs.Format.{Record}
 use Rattle.records.proofs.Sizes.{total-sizes}
 use Rattle.layout.specs.Table.{fixedPart, uncountedFields, uncheckedFields}
 use Rattle.layout.specs.Batch.{Marker, Content, control, records, Batch}
-use Rattle.layout.specs.Format.{grammarOf, ContentBytes, BatchBytes}
+use Rattle.layout.specs.Format.{grammarOf, ContentBytes, Grammar, BatchBytesWith}
 use Rattle.opening.specs.Judgement.{Accepted, wayOf}
 use Rattle.layout.specs.declared.ControlMode.{ControlMode}
 use Rattle.batches.specs.Placed.{shownContent}
@@ -20,7 +20,7 @@ use Rattle.batches.specs.Statements.{MarkedSize, SizesOf, Sizes}
 use Rattle.batches.proofs.Passed.{passed}
 use Rattle.batches.proofs.Sound.{sound}
 
-pub body-rest : {mode : ControlMode} {strict : Bool} {bs : List ℕ} {b : Batch Record} (g : BatchBytes mode strict bs b) → length bs ≡ fixedPart + length (g .body)
+pub body-rest : {grammar : Grammar} {strict : Bool} {bs : List ℕ} {b : Batch Record} (g : BatchBytesWith grammar strict bs b) → length bs ≡ fixedPart + length (g .body)
 unfolding concat
 body-rest g =
     ap length (
@@ -52,7 +52,7 @@ marked-size ControlMode.Bare strict bs m g n e =
     omega (arith, e, ap length (g .is), length-append (g .version) (g .kind), integer-length (g .versioned), integer-length (g .typed))
 marked-size ControlMode.Keyed strict bs m g n e = e
 
-body-sizes : (mode : ControlMode) (strict : Bool) (bs : List ℕ) (c : Content Record) (g : ContentBytes mode strict bs c) (n : ℕ) → n ≡ 49 + length bs
+body-sizes : (mode : ControlMode) (strict : Bool) (bs : List ℕ) (c : Content Record) (g : ContentBytes (grammarOf mode) strict bs c) (n : ℕ) → n ≡ 49 + length bs
     → SizesOf mode strict bs c g n
 body-sizes mode strict bs (control m) g n e = marked-size mode strict bs m g n e
 body-sizes mode strict bs (records rs) g n e = e ∙ ap (λ (k : ℕ). 49 + k) (total-sizes g)

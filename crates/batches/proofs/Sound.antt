@@ -27,13 +27,13 @@ use Rattle.records.proofs.Shows.{records-shows}
 use Rattle.records.proofs.Sound.{records-sound}
 use Rattle.layout.specs.Table.{Slot, table, uncountedFields, uncheckedFields, checkedFields}
 use Rattle.layout.specs.Batch.{Content, control, records, Batch}
-use Rattle.layout.specs.Format.{bit, controlBit, howMany, Counts, ContentBytes, BatchBytes}
-use Rattle.opening.specs.Judgement.{wayOf, Accepted, unsignedIn, numberIn, attributesIn, fieldsIn, is, contentAt}
+use Rattle.layout.specs.Format.{Grammar, grammarOf, bit, controlBit, howMany, Counts, ContentBytes, BatchBytesWith}
+use Rattle.opening.specs.Judgement.{Control, wayOf, Accepted, unsignedIn, numberIn, attributesIn, fieldsIn, is, contentAt}
 use Rattle.opening.proofs.Tests.{Says}
-use Rattle.layout.specs.declared.ControlMode.{ControlMode}
+use Rattle.markers.specs.Forms.{Reads}
 use Rattle.markers.proofs.Forms.{forms-lawful}
 use Rattle.batches.specs.Placed.{placedContent, placedBatch, shownContent, shownBatch}
-use Rattle.batches.specs.Statements.{Sound}
+use Rattle.batches.specs.Statements.{Sound, SoundWith}
 use Rattle.batches.proofs.Bits.{together}
 use Rattle.batches.proofs.Passed.{Read, whole, passed}
 use Rattle.batches.proofs.Pieces.{piece, pieces, piece-unsigned, piece-integer, uncounted-stand, unchecked-stand, checked-stand}
@@ -41,20 +41,21 @@ use Rattle.batches.proofs.Pieces.{piece, pieces, piece-unsigned, piece-
 -- ---- the marker, or the records
 
 -- an encoding of v stands from p up to the list's end, c is where its parts stand, and its kind and number are as told
-record Found (mode : ControlMode) (s : List ℕ) (isControl : Bool) (n p : ℕ) (c : Content RecordSpans) (v : Content Record) : Type 0 where
+record Found (grammar : Grammar) (s : List ℕ) (isControl : Bool) (n p : ℕ) (c : Content RecordSpans) (v : Content Record) : Type 0 where
   bytes : List ℕ
   stands : Stands s p (length s) bytes
-  encodes : ContentBytes mode false bytes v
-  placed : c ≡ placedContent mode false bytes v p encodes
+  encodes : ContentBytes grammar false bytes v
+  placed : c ≡ placedContent grammar false bytes v p encodes
   kind : bit isControl ≡ controlBit v
   many : n ≡ howMany v
 
-content-found : (mode : ControlMode) (s : List ℕ) → Bytes s → (isControl : Bool) (n p : ℕ) (c : Content RecordSpans) (q : ℕ) → contentAt (wayOf mode) isControl s n p ≡ ok c q
-    → ((isControl ≡ true) × (n ≡ 1)) ⊎ (isControl ≡ false) → Found mode s isControl n p c (shownContent s c)
-content-found mode s b true n p c q e o =
-    let (m, i, w) = map-ok control (wayOf mode s p) e in
-    let (x, l) = forms-lawful mode .sound s p q m b i in
-    subst (λ (c : Content RecordSpans). Found mode s true n p c (shownContent s c)) w
+content-found : {grammar : Grammar} {way : Control} → Reads grammar way → (s : List ℕ) → Bytes s → (isControl : Bool) (n p : ℕ) (c : Content RecordSpans) (q : ℕ)
+    → contentAt way isControl s n p ≡ ok c q
+    → ((isControl ≡ true) × (n ≡ 1)) ⊎ (isControl ≡ false) → Found grammar s isControl n p c (shownContent s c)
+content-found {grammar} {way} reads s b true n p c q e o =
+    let (m, i, w) = map-ok control (way s p) e in
+    let (x, l) = reads .sound s p q m b i in
+    subst (λ (c : Content RecordSpans). Found grammar s true n p c (shownContent s c)) w
     (record {
       bytes = x .bytes;
       stands = subst (λ (q : ℕ). Stands s p q (x .bytes)) l (x .stands);
@@ -63,10 +64,10 @@ content-found mode s b true n p c q e o =
       kind = refl;
       many = elim o [ inl (_, h) ↦ h | inr f ↦ cc ];
     })
-content-found mode s b false n p c q e o =
+content-found {grammar} reads s b false n p c q e o =
     let (rs, i, w) = map-ok records (recordsAt s n p) e in
     let (x, v, m, l) = records-sound s n p rs q b i in
-    subst (λ (c : Content RecordSpans). Found mode s false n p c (shownContent s c)) w
+    subst (λ (c : Content RecordSpans). Found grammar s false n p c (shownContent s c)) w
     (record {
       bytes = x .bytes;
       stands = subst (λ (q : ℕ). Stands s p q (x .bytes)) l (x .stands);
@@ -77,17 +78,17 @@ content-found mode s b false n p c q e o =
     })
 
 -- what parts show where they stand
-content-shows : (mode : ControlMode) (strict : Bool) {s : List ℕ} {p q : ℕ} {bs : List ℕ} (v : Content Record) → Stands s p q bs → (g : ContentBytes mode strict bs v)
-    → shownContent s (placedContent mode strict bs v p g) ≡ v
-content-shows mode strict (control m) x g = refl
-content-shows mode strict (records rs) x g = ap records (records-shows x g)
+content-shows : (grammar : Grammar) (strict : Bool) {s : List ℕ} {p q : ℕ} {bs : List ℕ} (v : Content Record) → Stands s p q bs → (g : ContentBytes grammar strict bs v)
+    → shownContent s (placedContent grammar strict bs v p g) ≡ v
+content-shows grammar strict (control m) x g = refl
+content-shows grammar strict (records rs) x g = ap records (records-shows x g)
 
 -- a window shows what the list shows
-found-outside : (mode : ControlMode) (s : List ℕ) (e : ℕ) {isControl : Bool} {n p : ℕ} {c : Content RecordSpans} {v : Content Record}
-    → Found mode (take e s) isControl n p c v → Found mode (take e s) isControl n p c (shownContent s c)
-found-outside mode s e {isControl} {n} {p} {c} {v} f =
-    subst (Found mode (take e s) isControl n p c)
-    (sym (content-shows mode false v (outside e (f .stands)) (f .encodes)) ∙ ap (shownContent s) (sym (f .placed))) f
+found-outside : (grammar : Grammar) (s : List ℕ) (e : ℕ) {isControl : Bool} {n p : ℕ} {c : Content RecordSpans} {v : Content Record}
+    → Found grammar (take e s) isControl n p c v → Found grammar (take e s) isControl n p c (shownContent s c)
+found-outside grammar s e {isControl} {n} {p} {c} {v} f =
+    subst (Found grammar (take e s) isControl n p c)
+    (sym (content-shows grammar false v (outside e (f .stands)) (f .encodes)) ∙ ap (shownContent s) (sym (f .placed))) f
 
 -- ---- the batch, in its window w
 
@@ -95,9 +96,9 @@ counts-said : (w : List ℕ) (at : ℕ) {n : ℕ} → Says w at n → Counts fal
 counts-said w at (inl e) = rw e Counts.exactly
 counts-said w at (inr (e, f)) = rw (e, f) Counts.minusOne
 
-module _ (mode : ControlMode) (w : List ℕ) (at n first : ℕ) (b : Bytes w) (l : length w ≡ at + (12 + n)) (length-is : numberIn (table .batchLength) w at ≡ pos n)
-    (magic-is : numberIn (table .magic) w at ≡ pos 2) {c : Content RecordSpans} {v : Content Record} (r : Read (wayOf mode) w at c)
-    (f : Found mode w (attributesIn w at .control) (r .count) (at + 61) c v) where
+module _ (grammar : Grammar) (way : Control) (w : List ℕ) (at n first : ℕ) (b : Bytes w) (l : length w ≡ at + (12 + n)) (length-is : numberIn (table .batchLength) w at ≡ pos n)
+    (magic-is : numberIn (table .magic) w at ≡ pos 2) {c : Content RecordSpans} {v : Content Record} (r : Read way w at c)
+    (f : Found grammar w (attributesIn w at .control) (r .count) (at + 61) c v) where
   abbrev checked : List ℕ
   checked = concat (checkedFields (pieces w at)) ++ f .bytes
 
@@ -116,7 +117,7 @@ module _ (mode : ControlMode) (w : List ℕ) (at n first : ℕ) (b : Bytes w) (l
   abbrev value : Batch Record
   value = record { fields = fieldsIn w at; content = v }
 
-  batch-bytes : BatchBytes mode false (concat (uncountedFields (pieces w at)) ++ counted) value
+  batch-bytes : BatchBytesWith grammar false (concat (uncountedFields (pieces w at)) ++ counted) value
   batch-bytes =
       record {
         part = pieces w at;
@@ -151,7 +152,7 @@ module _ (mode : ControlMode) (w : List ℕ) (at n first : ℕ) (b : Bytes w) (l
         holds = f .encodes;
       }
 
-  batch-found : (e : Encoding (BatchBytes mode false) w at (length w) value) × (whole (wayOf mode) w at first (12 + n) c ≡ placedBatch at first (e .encodes))
+  batch-found : (e : Encoding (BatchBytesWith grammar false) w at (length w) value) × (whole way w at first (12 + n) c ≡ placedBatch at first (e .encodes))
   unfolding batch-bytes
   batch-found =
       let x = joined (uncounted-stand w at b (r .fixed)) counted-stands in
@@ -165,17 +166,20 @@ module _ (mode : ControlMode) (w : List ℕ) (at n first : ℕ) (b : Bytes w) (l
 number-cut : (x : Slot) (e : ℕ) (s : List ℕ) (at : ℕ) → at + x .place + x .bytes ≤ e → numberIn x (take e s) at ≡ numberIn x s at
 number-cut x e s at h = ap (signedBy (2 ^ (8 * x .bytes - 1))) (big-window (x .bytes) e s (at + x .place) h)
 
-pub sound : Sound
-sound mode s at first b bytes j =
-    let p = passed (wayOf mode) s at first b j in
+pub sound-with : SoundWith
+sound-with grammar way reads s at first b bytes j =
+    let p = passed way s at first b j in
     let r = p .read in
     let e = at + (12 + p .size) in
     let w = take e s in
     let l : length w ≡ e = length-take-le e s (p .all-there) in
     let cut : (x : Slot) → x .place + x .bytes ≤ 61 → numberIn x w at ≡ numberIn x s at = λ x h. number-cut x e s at (omega (arith, l, r .fixed)) in
-    let f = content-found mode w (window-bytes e s bytes) (attributesIn w at .control) (r .count) (at + 61) (p .content) (r .end) (r .reads) (r .one) in
-    let (x, y) = batch-found mode w at (p .size) first (window-bytes e s bytes) l
-    (cut (table .batchLength) (omega arith) ∙ p .batchLength) (cut (table .magic) (omega arith) ∙ p .magic) r (found-outside mode s e f) in
-    subst (λ (b : Accepted). (e : Encoding (BatchBytes mode false) s at (at + b .consumed) (shownBatch s b)) × (b ≡ placedBatch at first (e .encodes)))
+    let f = content-found reads w (window-bytes e s bytes) (attributesIn w at .control) (r .count) (at + 61) (p .content) (r .end) (r .reads) (r .one) in
+    let (x, y) = batch-found grammar way w at (p .size) first (window-bytes e s bytes) l
+    (cut (table .batchLength) (omega arith) ∙ p .batchLength) (cut (table .magic) (omega arith) ∙ p .magic) r (found-outside grammar s e f) in
+    subst (λ (b : Accepted). (e : Encoding (BatchBytesWith grammar false) s at (at + b .consumed) (shownBatch s b)) × (b ≡ placedBatch at first (e .encodes)))
     (sym (p .is))
     (record { bytes = x .bytes; stands = outside e (subst (λ (q : ℕ). Stands w at q (x .bytes)) l (x .stands)); encodes = x .encodes }, y)
+
+pub sound : Sound
+sound mode = sound-with (grammarOf mode) (wayOf mode) (forms-lawful mode .reads)

@@ -102,7 +102,7 @@ counts-exactly e minusOne = pos-not-negsuc (sym e)
 
 module _ (mode : ControlMode) (s : List ℕ) (b : Batch Record) (bytes : Bytes s) where
   -- low bytes leave no higher bits and no count below 0
-  strictly : (g : BatchBytes mode false s b) → Low s → ContentBytes mode true (g .body) (b .content) → BatchBytes mode true s b
+  strictly : (g : BatchBytes mode false s b) → Low s → ContentBytes (grammarOf mode) true (g .body) (b .content) → BatchBytes mode true s b
   strictly g low holds =
       let y = parts-stand (whole s) g in
       let below : big 4 s 57 < 2 ^ 31 = omega (arith, count-is s, low .third, bytes 58, bytes 59, bytes 60) in
@@ -179,14 +179,14 @@ judged-as x first total (no n) e = refused-not-accepted e
 -- ---- the marker or the records
 
 -- strict content that is a marker
-alone-strictly : (mode : ControlMode) {s : List ℕ} {p : ℕ} {bs : List ℕ} (v : Content Record) → Stands s p (length s) bs → (g : ContentBytes mode true bs v)
-    → (m : Marker) → placedContent mode true bs v p g ≡ control m → StandsAlone mode s p
+alone-strictly : (mode : ControlMode) {s : List ℕ} {p : ℕ} {bs : List ℕ} (v : Content Record) → Stands s p (length s) bs → (g : ContentBytes (grammarOf mode) true bs v)
+    → (m : Marker) → placedContent (grammarOf mode) true bs v p g ≡ control m → StandsAlone mode s p
 alone-strictly mode {bs = bs} (control k) x g m e = (k, record { bytes = bs; stands = x; encodes = g })
 alone-strictly mode (records rs) x g m e = let z : _≡_ {A = ℕ} 0 1 = cc in absurd (omega arith)
 
 -- strict content whose spans are those of records
-stands-strictly : (mode : ControlMode) {s : List ℕ} {p : ℕ} {bs : List ℕ} (v : Content Record) → Stands s p (length s) bs → (g : ContentBytes mode true bs v)
-    → {n : ℕ} (spans : List RecordSpans) → placedContent mode true bs v p g ≡ records spans → length spans ≡ n → StandStrictly s p n
+stands-strictly : (mode : ControlMode) {s : List ℕ} {p : ℕ} {bs : List ℕ} (v : Content Record) → Stands s p (length s) bs → (g : ContentBytes (grammarOf mode) true bs v)
+    → {n : ℕ} (spans : List RecordSpans) → placedContent (grammarOf mode) true bs v p g ≡ records spans → length spans ≡ n → StandStrictly s p n
 stands-strictly mode (control m) x g spans e many = let z : _≡_ {A = ℕ} 0 1 = cc in absurd (omega arith)
 stands-strictly mode {s} {p} {bs} (records rs) x g spans e many =
     let same : placedRecords p g ≡ spans = cc in
@@ -293,7 +293,7 @@ module _ (mode : ControlMode) (s : List ℕ) (fits : (i : ℕ) → Fits w8 (getD
           abbrev grammar : Content RecordSpans → Type 0
           grammar c = BatchBytes mode false s (shownBatch s (accepts c))
 
-          read-canonical : (c : Content RecordSpans) (g : grammar c) → ContentBytes mode true (g .body) (shownBatch s (accepts c) .content) → Canonical mode s
+          read-canonical : (c : Content RecordSpans) (g : grammar c) → ContentBytes (grammarOf mode) true (g .body) (shownBatch s (accepts c) .content) → Canonical mode s
           read-canonical c g holds =
               strict-canonical (shownBatch s (accepts c)) (strictly mode s _ bytes-are g (tight-low s (sym tested ∙ not-false t passed)) holds)
 
@@ -304,7 +304,7 @@ module _ (mode : ControlMode) (s : List ℕ) (fits : (i : ℕ) → Fits w8 (getD
             where
               stands : StandsAlone mode s (next .at) → Canonical mode s
               stands (m, x) =
-                  let i = forms-lawful mode .complete true s (next .at) (x .bytes) m (x .stands) (x .encodes) in
+                  let i = forms-lawful mode .reads .complete true s (next .at) (x .bytes) m (x .stands) (x .encodes) in
                   let g = accepted-all (accepts (control m)) (read-judged true h (control m) (length s) (ap (mapStep control) i)) all in
                   let body : x .bytes ≡ g .body
                   = sym (all-left (x .stands)) ∙ ap (λ (p : ℕ). drop p s) (ends .next) ∙ all-left (parts-stand (whole s) g .body) in

@@ -14,7 +14,7 @@ use Rattle.records.specs.Judgement.{RecordSpans}
 use Rattle.records.specs.Rows.{Tables}
 use Rattle.layout.specs.declared.ControlMode.{ControlMode}
 use Rattle.layout.specs.Batch.{Fields, Content, Batch}
-use Rattle.layout.specs.Format.{BatchBytes}
+use Rattle.layout.specs.Format.{BatchBytes, Grammar, BatchBytesWith}
 use Rattle.batches.specs.declared.BatchCheck.{BatchCheck}
 use Rattle.batches.specs.Placed.{placedBatch, shownContent}
 use Rattle.batches.specs.Answers.{Standing, Answer, accepts, refuses, viewCheck, viewRead, kindOf, recordsIn, headersOf}
@@ -32,7 +32,7 @@ pub record Names (s : List ℕ) (b : Batch Record) (spans : Content RecordSpans)
   pub shows : shownContent s spans ≡ b .content
 
 -- what a batch's encoding at the start of some bytes has for spans: each start is the place just after its own length
-abbrev pub spansOf : {mode : ControlMode} {strict : Bool} {bs : List ℕ} {b : Batch Record} → BatchBytes mode strict bs b → Content RecordSpans
+abbrev pub spansOf : {grammar : Grammar} {strict : Bool} {bs : List ℕ} {b : Batch Record} → BatchBytesWith grammar strict bs b → Content RecordSpans
 spansOf g = placedBatch 0 0 g .content
 
 -- ---- the reader

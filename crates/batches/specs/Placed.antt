@@ -6,23 +6,22 @@ use lib.ListN.{length}
 use Rattle.records.specs.Format.{Record}
 use Rattle.records.specs.Judgement.{RecordSpans}
 use Rattle.records.specs.Placed.{placedRecords, shownRecords}
-use Rattle.layout.specs.declared.ControlMode.{ControlMode}
 use Rattle.layout.specs.Table.{fixedPart}
 use Rattle.layout.specs.Batch.{Content, control, records, Batch}
-use Rattle.layout.specs.Format.{ContentBytes, BatchBytes}
+use Rattle.layout.specs.Format.{Grammar, ContentBytes, BatchBytesWith}
 use Rattle.opening.specs.Judgement.{Accepted}
 
-abbrev pub placedContent : (mode : ControlMode) (strict : Bool) (bs : List ℕ) (c : Content Record) → ℕ → ContentBytes mode strict bs c
+abbrev pub placedContent : (grammar : Grammar) (strict : Bool) (bs : List ℕ) (c : Content Record) → ℕ → ContentBytes grammar strict bs c
     → Content RecordSpans
-placedContent mode strict bs (control m) p g = control m
-placedContent mode strict bs (records rs) p g = records (placedRecords p g)
+placedContent grammar strict bs (control m) p g = control m
+placedContent grammar strict bs (records rs) p g = records (placedRecords p g)
 
 -- the accepted batch of an encoding that stands at a place, with its header rows from a given row on
-abbrev pub placedBatch : {mode : ControlMode} {strict : Bool} {bs : List ℕ} {b : Batch Record} → ℕ → ℕ → BatchBytes mode strict bs b → Accepted
-placedBatch {mode} {strict} {bs} {b} at first g =
+abbrev pub placedBatch : {grammar : Grammar} {strict : Bool} {bs : List ℕ} {b : Batch Record} → ℕ → ℕ → BatchBytesWith grammar strict bs b → Accepted
+placedBatch {grammar} {strict} {bs} {b} at first g =
     record {
       fields = b .fields;
-      content = placedContent mode strict (g .body) (b .content) (at + fixedPart) (g .holds);
+      content = placedContent grammar strict (g .body) (b .content) (at + fixedPart) (g .holds);
       firstHeader = first;
       consumed = length bs;
     }

@@ -19,9 +19,10 @@ use Rattle.records.specs.Statements.{sizes, total, movedRecord}
 use Rattle.layout.specs.declared.ControlMode.{ControlMode}
 use Rattle.layout.specs.Table.{table}
 use Rattle.layout.specs.Batch.{Fields, Marker, Content, control, records, Batch}
-use Rattle.layout.specs.Format.{ContentBytes, BatchBytes}
+use Rattle.layout.specs.Format.{Grammar, grammarOf, ContentBytes, BatchBytesWith, BatchBytes}
 use Rattle.opening.specs.Judgement.{more, refused, accepted, Accepted, Judgement, unsignedIn, numberIn, attributesIn, Control, judgeWith, wayOf, judgeAt, judge}
 use Rattle.opening.specs.Statements.{Placeless}
+use Rattle.markers.specs.Forms.{Reads}
 use Rattle.batches.specs.declared.BatchCheck.{BatchCheck}
 use Rattle.batches.specs.Placed.{placedBatch, shownBatch}
 use Rattle.batches.specs.Answers.{Standing, viewCheck, viewRead}
@@ -41,6 +42,19 @@ abbrev pub Complete : Type 0
 Complete =
     (mode : ControlMode) (strict : Bool) (s : List ℕ) (at first q : ℕ) (bs : List ℕ) (b : Batch Record) → Stands s at q bs
     → (g : BatchBytes mode strict bs b) → (judgeAt mode s at first ≡ accepted (placedBatch at first g)) × (shownBatch s (placedBatch at first g) ≡ b)
+
+-- Both are so for every grammar of a control batch and every way that reads it, and nothing else.
+abbrev pub SoundWith : Type 1
+SoundWith =
+    (grammar : Grammar) (way : Control) → Reads grammar way → (s : List ℕ) (at first : ℕ) (b : Accepted) → Bytes s
+    → judgeWith way s at first ≡ accepted b
+    → (e : Encoding (BatchBytesWith grammar false) s at (at + b .consumed) (shownBatch s b)) × (b ≡ placedBatch at first (e .encodes))
+
+abbrev pub CompleteWith : Type 1
+CompleteWith =
+    (grammar : Grammar) (way : Control) → Reads grammar way → (strict : Bool) (s : List ℕ) (at first q : ℕ) (bs : List ℕ) (b : Batch Record)
+    → Stands s at q bs → (g : BatchBytesWith grammar strict bs b)
+    → (judgeWith way s at first ≡ accepted (placedBatch at first g)) × (shownBatch s (placedBatch at first g) ≡ b)
 
 -- Two batches with the same encoding are equal, and no encoding is a proper beginning of another.
 abbrev pub Unambiguous : Type 0
@@ -170,7 +184,7 @@ MarkedSize ControlMode.Bare bs n = n ≡ 53
 MarkedSize ControlMode.Keyed bs n = n ≡ 49 + length bs
 
 -- the sizes of the records add up to batchLength - 49
-abbrev pub SizesOf : (mode : ControlMode) (strict : Bool) (bs : List ℕ) (c : Content Record) → ContentBytes mode strict bs c → ℕ → Type 0
+abbrev pub SizesOf : (mode : ControlMode) (strict : Bool) (bs : List ℕ) (c : Content Record) → ContentBytes (grammarOf mode) strict bs c → ℕ → Type 0
 SizesOf mode strict bs (control m) g n = MarkedSize mode bs n
 SizesOf mode strict bs (records rs) g n = n ≡ 49 + total (sizes g)
 

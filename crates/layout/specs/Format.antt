@@ -89,22 +89,27 @@ pub record KeyedBytes (strict : Bool) (bs : List ℕ) (m : Marker) : Type 0 wher
   pub marked : MarkerBytes marker m
   pub plain : Plain strict shows marker
 
--- What follows the fixed fields of a control batch.
+-- What follows the fixed fields of a control batch, by the strict grammar or not. The batch is said for any such
+-- grammar.
+abbrev pub Grammar : Type 1
+Grammar = Bool → List ℕ → Marker → Type 0
+
 -- Exception in bare mode, as in the Rust: version and type stand alone, and not in the key of a record.
-unfoldable pub grammarOf : ControlMode → Bool → List ℕ → Marker → Type 0
+unfoldable pub grammarOf : ControlMode → Grammar
 grammarOf ControlMode.Bare strict bs m = MarkerBytes bs m
 grammarOf ControlMode.Keyed strict bs m = KeyedBytes strict bs m
 
-abbrev pub ContentBytes : ControlMode → Bool → List ℕ → Content Record → Type 0
-ContentBytes mode strict bs (control m) = grammarOf mode strict bs m
-ContentBytes mode strict bs (records rs) = RecordsBytes strict bs rs
+-- what follows the fixed fields, for any grammar of a control batch
+abbrev pub ContentBytes : Grammar → Bool → List ℕ → Content Record → Type 0
+ContentBytes grammar strict bs (control m) = grammar strict bs m
+ContentBytes grammar strict bs (records rs) = RecordsBytes strict bs rs
 
 -- ---- the batch
 
 -- Kafka, message format, record batch. The checksum is over all that follows it, batchLength is the number of bytes
 -- that follow it.
 -- Exception, as in the Rust: lastOffsetDelta and the timestamps are any integers, whatever the records are.
-pub record BatchBytes (mode : ControlMode) (strict : Bool) (bs : List ℕ) (b : Batch Record) : Type 0 where
+pub record BatchBytesWith (grammar : Grammar) (strict : Bool) (bs : List ℕ) (b : Batch Record) : Type 0 where
   pub part : FixedFields (List ℕ)  -- the bytes of each fixed field
   pub body : List ℕ  -- what follows them
   pub checked : List ℕ  -- what the checksum is over
@@ -128,4 +133,7 @@ pub record BatchBytes (mode : ControlMode) (strict : Bool) (bs : List ℕ) (b : 
   pub baseSequence : Integer (table .baseSequence .bytes) (part .baseSequence) (b .fields .baseSequence)
   pub numbered : Integer (table .count .bytes) (part .count) count
   pub counts : Counts strict count (howMany (b .content))
-  pub holds : ContentBytes mode strict body (b .content)
+  pub holds : ContentBytes grammar strict body (b .content)
+
+abbrev pub BatchBytes : ControlMode → Bool → List ℕ → Batch Record → Type 0
+BatchBytes mode = BatchBytesWith (grammarOf mode)

@@ -120,8 +120,7 @@ pub bare-lawful : Lawful ControlMode.Bare
 unfolding grammarOf wayOf wrongOf writesOf
 bare-lawful =
     record {
-      sound = bare-sound;
-      complete = λ strict s p bs m x g. bare-complete x g;
+      reads = record { sound = bare-sound; complete = λ strict s p bs m x g. bare-complete x g };
       late = λ s p n e. refusal-within (bare-refuses s p) e;
       faults = bare-marker-faults;
       placeless = bare-placeless;

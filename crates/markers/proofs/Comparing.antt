@@ -74,7 +74,7 @@ module _ (s : List ℕ) (at : ℕ) where
 
   -- what stands there as it is written is read
   alone-read : (x : StandsAlone ControlMode.Keyed s at) → wayOf ControlMode.Keyed s at ≡ ok (x .0) (length s)
-  alone-read (m, x) = keyed-lawful .complete true s at (x .bytes) m (x .stands) (x .encodes)
+  alone-read (m, x) = keyed-lawful .reads .complete true s at (x .bytes) m (x .stands) (x .encodes)
 
   module _ (a : ControlBatchRecordRead) (e : viewMarkerRead a ≡ wayOf ControlMode.Keyed s at) where
     pub unread-stands-not : (f : BatchFault) → a ≡ ControlBatchRecordRead.Refused f → StandsPromise ControlMode.Keyed s at false

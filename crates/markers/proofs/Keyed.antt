@@ -210,8 +210,7 @@ pub keyed-lawful : Lawful ControlMode.Keyed
 unfolding grammarOf wayOf wrongOf writesOf
 keyed-lawful =
     record {
-      sound = keyed-sound;
-      complete = keyed-complete;
+      reads = record { sound = keyed-sound; complete = keyed-complete };
       late = λ s p n e. refusal-within (keyed-refuses s p) e;
       faults = keyed-marker-faults;
       placeless = keyed-placeless;

@@ -81,12 +81,12 @@ module _ (s : List ℕ) (fits : (i : ℕ) → Fits w8 (getD s i 0)) (at : ℕ) (
   pub marker-there : (m : ControlBatchRecord) (c : Cursor) → r ≡ ControlBatchRecordRead.Got m c → StandsPromise ControlMode.Bare s at true
   unfolding grammarOf
   marker-there m c f =
-      let (x, end) = bare-lawful .sound s at (c .at) (viewMarker m) (λ i. fits i .fits) (sym e ∙ ap viewMarkerRead f) in
+      let (x, end) = bare-lawful .reads .sound s at (c .at) (viewMarker m) (λ i. fits i .fits) (sym e ∙ ap viewMarkerRead f) in
       let y = subst (λ (q : ℕ). Encoding (grammarOf ControlMode.Bare false) s at q (viewMarker m)) end x in
       (λ _. (viewMarker m, record { bytes = y .bytes; stands = y .stands; encodes = y .encodes }), λ _. refl)
 
   pub marker-missing : (f : BatchFault) → r ≡ ControlBatchRecordRead.Refused f → StandsPromise ControlMode.Bare s at false
   marker-missing f g = (
     λ i. absurd (let z : _≡_ {A = ℕ} 0 1 = cc in omega arith),
-    λ (m, x). ok-not-no (sym (bare-lawful .complete true s at (x .bytes) m (x .stands) (x .encodes)) ∙ sym e ∙ ap viewMarkerRead g),
+    λ (m, x). ok-not-no (sym (bare-lawful .reads .complete true s at (x .bytes) m (x .stands) (x .encodes)) ∙ sym e ∙ ap viewMarkerRead g),
   )

@@ -11,8 +11,8 @@ use Rattle.primitives.specs.Stands.{Stands, Encoding}
 use Rattle.records.specs.Written.{writtenRecord}
 use Rattle.layout.specs.declared.ControlMode.{ControlMode}
 use Rattle.layout.specs.Batch.{Marker}
-use Rattle.layout.specs.Format.{grammarOf, markerRecord}
-use Rattle.opening.specs.Judgement.{wayOf}
+use Rattle.layout.specs.Format.{Grammar, grammarOf, markerRecord}
+use Rattle.opening.specs.Judgement.{Control, wayOf}
 use Rattle.opening.specs.Faults.{wrongOf}
 use Rattle.opening.specs.Statements.{Placeless, FaultsOf}
 use Rattle.markers.specs.Markers.{writtenMarker}
@@ -28,13 +28,16 @@ abbrev pub sizeOf : ControlMode → ℕ
 sizeOf ControlMode.Bare = 4
 sizeOf ControlMode.Keyed = 11
 
-pub record Lawful (mode : ControlMode) : Type 0 where
+-- a way of reading control batches that reads a grammar, and nothing else
+pub record Reads (grammar : Grammar) (way : Control) : Type 0 where
   -- what is read is of the grammar, and ends where the bytes end
-  pub sound : (s : List ℕ) (p q : ℕ) (m : Marker) → Bytes s → wayOf mode s p ≡ ok m q
-      → Encoding (grammarOf mode false) s p q m × (q ≡ length s)
+  pub sound : (s : List ℕ) (p q : ℕ) (m : Marker) → Bytes s → way s p ≡ ok m q → Encoding (grammar false) s p q m × (q ≡ length s)
   -- what is of the grammar is read, where it ends with the bytes
-  pub complete : (strict : Bool) (s : List ℕ) (p : ℕ) (bs : List ℕ) (m : Marker) → Stands s p (length s) bs → grammarOf mode strict bs m
-      → wayOf mode s p ≡ ok m (length s)
+  pub complete : (strict : Bool) (s : List ℕ) (p : ℕ) (bs : List ℕ) (m : Marker) → Stands s p (length s) bs → grammar strict bs m
+      → way s p ≡ ok m (length s)
+
+pub record Lawful (mode : ControlMode) : Type 0 where
+  pub reads : Reads (grammarOf mode) (wayOf mode)
   -- it refuses by none but the numbers 8 to 13
   pub late : (s : List ℕ) (p n : ℕ) → wayOf mode s p ≡ no n → (8 ≤ n) × (n ≤ 13)
   -- and by the first fault, wherever there is one
