@@ -17,7 +17,8 @@ BUILDS = {'found': 'instruction found at run time', 'inlined': 'instruction buil
 BARS = {('read', '100 small records'): 3, ('read', 'four values of 1 MiB'): 1, ('write', '100 small records'): 3}
 
 # What users call, what it is measured by, and how many times as long it may take.
-USERS = {'read a log': ('safe crate', 'C functions', 1.15), 'verify a log': ('program', 'check', 1.5)}
+USERS = {'read a log': ('safe crate', 'C functions', 1.15), 'verify a log': ('program', 'check', 1.5),
+         'convert a log': ('convert', 'check and copy', 1.3)}
 
 
 def fields(path):

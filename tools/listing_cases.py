@@ -3,10 +3,10 @@
 what it prints with what is expected: tools/listing_cases.py [PROGRAM]
 
 Files are put together here, and the expected text of each stands beside it. The samples' is worked out by the decoder
-below, which is held to all the other cases too. Both are written from document 01 alone; nothing of the code under
-test is used. The program has to leave its standard error empty. Where its standard input cannot be read it has to say
-so there, in one line, and to print nothing. It has to end with status 0, since Rattle gives a program no other. Prints
-each case that differs, and fails where one does."""
+below, which is held to all the other cases too. Both are written from document 01 and, for control batches, from
+document 02's C-16 and C-24; nothing of the code under test is used. The program has to leave its standard error empty.
+Where its standard input cannot be read it has to say so there, in one line, and to print nothing. It has to end with
+status 0, since Rattle gives a program no other. Prints each case that differs, and fails where one does."""
 import contextlib
 import pathlib
 import socket
@@ -23,8 +23,10 @@ TOO_LONG = "file too long\n"
 UNREADABLE = b"list: standard input cannot be read\n"
 MOST = 65536
 RECORD_ROWS, HEADER_ROWS = 1024, 2048
+ABORT, COMMIT = bytes([0, 0, 0, 0]), bytes([0, 0, 0, 1])
+KINDS = {ABORT: "abort", COMMIT: "commit"}
 
-# ---- writing, after document 01
+# ---- writing, after documents 01 and 02
 
 
 def crc32c(data):
@@ -66,11 +68,15 @@ def batch(base, *records):
     return framed(base, b"".join(records), len(records))
 
 
-def marker(base, kind):
-    return framed(base, bytes([0, 0, 0, kind]), 1, 32)
+def control(base, body):
+    return framed(base, body, 1, 32)
 
 
-# ---- reading, after document 01
+def marker(base, key):
+    return control(base, record(key))
+
+
+# ---- reading, after documents 01 and 02
 
 
 class Refused(Exception):
@@ -115,13 +121,13 @@ class Bytes:
 
 
 def read_record(body):
-    """A record's headers, counted."""
+    """A record's key, and its headers, counted."""
     size = body.length(0)
     fields = Bytes(body.data, body.at, min(body.at + size, body.end))
     fields.take(1)
     fields.varint(64)
     fields.varint(32)
-    fields.sized(-1)
+    key = fields.sized(-1)
     fields.sized(-1)
     headers = fields.length(0)
     for _ in range(headers):
@@ -133,7 +139,20 @@ def read_record(body):
     if fields.at != body.at + size:
         raise Refused(13)
     body.at = fields.at
-    return headers
+    return key, headers
+
+
+def read_marker(body):
+    """The kind of a control batch. A marker that stands alone is withdrawn. Any other begins the key of a record, which
+    is looked at when all else is right."""
+    if body.data[body.at:body.end] in KINDS:
+        raise Refused(41)
+    key, _ = read_record(body)
+    if body.at != body.end:
+        raise Refused(13)
+    if key[:4] not in KINDS:
+        raise Refused(12)
+    return KINDS[key[:4]]
 
 
 def read_batch(data, start):
@@ -169,14 +188,9 @@ def read_batch(data, start):
     if attributes // 32 % 2:
         if count != 1:
             raise Refused(7)
-        if body.integer(2) != 0:
-            raise Refused(12)
-        kind = body.integer(2)
-        if kind not in (0, 1):
-            raise Refused(12)
-        counts = ("abort", "commit")[kind], 0, 0
+        counts = read_marker(body), 0, 0
     else:
-        counts = "records", count, sum(read_record(body) for _ in range(count))
+        counts = "records", count, sum(read_record(body)[1] for _ in range(count))
     if body.at != end:
         raise Refused(13)
     if RECORD_ROWS < counts[1] or HEADER_ROWS < counts[2]:
@@ -233,30 +247,45 @@ def stop_cases():
     yield 3, "magic -1", framed(0, b"", 0, magic=255)
     yield 4, "a wrong checksum", altered(ONE, 20, ONE[20] ^ 1)
     yield 4, "a bit changed", altered(ONE, 68, ONE[68] ^ 128)
+    yield 4, "an abort alone, made a commit", altered(control(5, ABORT), 64, 1)
     for codec in (5, 6, 7):
         yield 5, "codec %d" % codec, framed(0, b"", 0, codec)
+    yield 5, "a marker alone, codec 5", framed(0, ABORT, 1, 32 + 5)
     for codec in (1, 2, 3, 4):
         yield 6, "codec %d" % codec, framed(0, b"", 0, codec)
+    yield 6, "a marker alone, codec 1", framed(0, ABORT, 1, 32 + 1)
     yield 7, "count -2", framed(0, b"", -2)
-    yield 7, "a control batch's count 2", framed(0, bytes(4), 2, 32)
-    yield 7, "a control batch's count -1", framed(0, bytes(4), -1, 32)
+    commit = record(COMMIT)
+    for body, name in (commit, "a control batch"), (ABORT, "a marker alone"):
+        yield 7, "%s, count 2" % name, framed(0, body, 2, 32)
+        yield 7, "%s, count -1" % name, framed(0, body, -1, 32)
     yield 8, "batchLength 9", bytes(8) + (9).to_bytes(4, "big") + bytes(4) + b"\x02" + crc32c(b"").to_bytes(4, "big")
     yield 8, "a record missing", framed(0, A, 2)
     yield 8, "a value past its record", framed(0, bytes.fromhex("0E000000010441 00"), 1)
-    yield 8, "a control batch without a type", framed(0, bytes(2), 1, 32)
+    yield 8, "a control batch of two bytes", control(0, bytes(2))
+    yield 8, "a control batch of five bytes", control(0, bytes(5))
+    yield 8, "four bytes that are no marker, version 1", control(0, bytes([0, 1, 0, 0]))
+    yield 8, "four bytes that are no marker, type 2", control(0, bytes([0, 0, 0, 2]))
+    yield 8, "a marker's record cut", control(0, commit[:-1])
     yield 9, "a varint beyond its limits", framed(0, bytes.fromhex("FFFFFFFF10"), 1)
     yield 10, "a key length of -2", framed(0, bytes.fromhex("0C000000030100"), 1)
     yield 10, "a record length of -1", framed(0, varint(-1), 1)
     yield 11, "a header key that is no UTF-8", batch(0, record(headers=[(b"\xed\xa0\x80", b"")]))
-    yield 12, "control version 1", framed(0, bytes([0, 1, 0, 0]), 1, 32)
-    yield 12, "control type 2", framed(0, bytes([0, 0, 0, 2]), 1, 32)
+    yield 12, "control version 1", marker(0, bytes([0, 1, 0, 0]))
+    yield 12, "control type 2", marker(0, bytes([0, 0, 0, 2]))
+    yield 12, "a control key of three bytes", marker(0, bytes(3))
+    yield 12, "a control key that is null", marker(0, None)
     yield 13, "a byte after the last record", framed(0, A + b"\x00", 1)
-    yield 13, "a byte after the marker", framed(0, bytes(5), 1, 32)
+    yield 13, "a byte after the marker", control(0, commit + b"\x00")
+    yield 13, "a byte after a marker that is unknown", control(0, record(None) + b"\x00")
     yield 13, "a length of 100 over six bytes", framed(0, varint(100) + bytes.fromhex("000000010100"), 1)
     yield 14, "1,025 records", batch(0, *[record()] * 1025)
     yield 14, "2,049 headers of one record", batch(0, record(headers=[(b"", b"")] * 2049))
     two = record(headers=[(b"", b"")] * 2048), record(headers=[(b"k", b"v")])
     yield 14, "2,049 headers of two records", batch(0, *two)
+    yield 41, "an abort alone", control(5, ABORT)
+    yield 41, "a commit alone", control(6, COMMIT)
+    yield 41, "a commit alone, every bit but the codec's", framed(6, COMMIT, 1, 0xFFF8)
 
 
 def cases():
@@ -264,10 +293,13 @@ def cases():
     yield "an empty file", b"", "end at 0\n"
     yield "no records", EMPTY, "0 61 records 0 0\nend at 61\n"
     yield "count -1", framed(0, b"", -1), "0 61 records 0 0\nend at 61\n"
-    yield "an abort", marker(5, 0), "5 65 abort 0 0\nend at 65\n"
-    yield "a commit", marker(6, 1), "6 65 commit 0 0\nend at 65\n"
-    kinds = ONE + marker(8, 0) + marker(9, 1) + batch(10, record(b"k", b"v", [(b"a", b""), (b"b", b"c")]), A)
-    yield "each kind", kinds, "7 69 records 1 0\n8 65 abort 0 0\n9 65 commit 0 0\n10 85 records 2 2\nend at 284\n"
+    yield "an abort", marker(5, ABORT), "5 72 abort 0 0\nend at 72\n"
+    yield "a commit", marker(6, COMMIT), "6 72 commit 0 0\nend at 72\n"
+    yield "an abort with a value", control(3, record(ABORT, bytes(6))), "3 78 abort 0 0\nend at 78\n"
+    headed = control(4, record(COMMIT + b"more", None, [(b"a", b"bc")] * 2049))
+    yield "a commit with 2,049 headers", headed, "4 %d commit 0 0\nend at %d\n" % (len(headed), len(headed))
+    kinds = ONE + marker(8, ABORT) + marker(9, COMMIT) + batch(10, record(b"k", b"v", [(b"a", b""), (b"b", b"c")]), A)
+    yield "each kind", kinds, "7 69 records 1 0\n8 72 abort 0 0\n9 72 commit 0 0\n10 85 records 2 2\nend at 298\n"
     for base in (-1, -10, -2 ** 63, 2 ** 63 - 1, 9, 10, 99, 100, 10 ** 18):
         yield "base offset %d" % base, batch(base), "%d 61 records 0 0\nend at 61\n" % base
     for number, name, data in stop_cases():

@@ -1,11 +1,11 @@
 #!/usr/bin/env python3
-"""Writes the cases of an example program, crates/vectors or crates/batch_vectors:
+"""Writes the cases of an example program, crates/vectors, crates/batch_vectors or crates/entry_vectors:
 
     tools/vectors.py vectors > crates/vectors/stdin
 
-Every expectation is worked out here, by Python's arithmetic, from the sentences and tables of document 01, from document
-02's C-16 for control batches as brokers write them, from RFC 3720's polynomial and from RFC 3629's rows. Nothing of the code
-under test is used."""
+Every expectation is worked out here, by Python's arithmetic, from the sentences and tables of document 01, from
+document 02's C-16 for control batches as brokers write them and C-24 for markers that stand alone, from RFC 3720's
+polynomial and from RFC 3629's rows. Nothing of the code under test is used."""
 from itertools import islice
 import sys
 import zlib
@@ -42,31 +42,32 @@ ABOUT = """\
 # HEX is capital digits, two to a byte, or - for no bytes."""
 ABOUT_BATCHES = """\
 # Cases for crates/batch_vectors, written by tools/vectors.py. The expectations come from the sentences and tables of
-# document 01 and, for control batches as brokers write them, of document 02's C-16, by Python's arithmetic, and not
-# from the code under test.
+# document 01 and, for control batches, of document 02's C-16 and C-24, by Python's arithmetic, and not from the code
+# under test.
 #
 # = NAME                         the cases that follow, up to the next such line, are the group NAME
-# bare .., keyed ..              the case that follows the word holds where markers stand alone, as document 01 has
-#                                them, or in the key of a record, as brokers write them. Every other holds in both modes
+# bare .., keyed ..              the case that follows the word holds in bare mode, which has no control batch, or in
+#                                keyed mode, where a marker stands in the key of a record, as brokers write it. Every
+#                                other holds in both modes
 # batch HEX R H NUMBER [..]      reading a batch at the start of the bytes HEX into tables of R and of H numbers answers
-#                                document 01's NUMBER. After 0 (accepted) follow the fields: base offset, leader epoch,
-#                                last offset delta, first and max timestamp, producer id, producer epoch, base sequence,
-#                                timestamp type (0 create, 1 log append) and transactional (0, 1); then the kind (0
-#                                records, 1 abort, 2 commit), the counts of records and headers, the bytes consumed, and
-#                                |ROWS|ROWS, the numbers of all record rows and of all header rows. After 1 follow the
-#                                bytes needed; after 14 the records and headers needed, and | with what the check
-#                                answers. Else the check answers the same, and all other numbers of both tables always
-#                                stay as they are
+#                                document 01's NUMBER, or C-24's 41. After 0 (accepted) follow the fields: base offset,
+#                                leader epoch, last offset delta, first and max timestamp, producer id, producer epoch,
+#                                base sequence, timestamp type (0 create, 1 log append) and transactional (0, 1); then
+#                                the kind (0 records, 1 abort, 2 commit), the counts of records and headers, the bytes
+#                                consumed, and |ROWS|ROWS, the numbers of all record rows and of all header rows. After
+#                                1 follow the bytes needed; after 14 the records and headers needed, and | with what the
+#                                check answers. Else the check answers the same, and all other numbers of both tables
+#                                always stay as they are
 # cuts HEX K R H NUMBER [..]     the same for each start of HEX with K bytes or more. A shorter one needs 12 bytes or,
 #                                where it has them, 17 or, where it has them, K
 # time FIRST DELTA [TIME]        a record's time, or none, after that first timestamp, whichever the timestamp type
 # write SOURCE BYTES CODEC KIND COUNT FIELDS NUMBER|ROWS|ROWS
 #                                writing a batch of that kind, and of COUNT records (-1 stands for 2^64 - 1), with the
-#                                ten fields, from both tables and the source, is answered by document 01's NUMBER.
-#                                Where that is 0, the output begins with BYTES; they are canonical, are read, and are
-#                                written again from what was read. The output has each length from 0 to 100 more than
-#                                those bytes: a shorter one is answered by 24, and all its other bytes always stay as
-#                                they are. Measuring answers the same, but for 24
+#                                ten fields, from both tables and the source, is answered by document 01's NUMBER, or
+#                                by C-24's 41. Where that is 0, the output begins with BYTES; they are canonical, are
+#                                read, and are written again from what was read. The output has each length from 0 to
+#                                100 more than those bytes: a shorter one is answered by 24, and all its other bytes
+#                                always stay as they are. Measuring answers the same, but for 24
 # write-records SOURCE BYTES FIRST COUNT AT NUMBER|ROWS|ROWS
 #                                the same of COUNT records alone, with header rows from row FIRST on, whose bytes begin
 #                                at place AT of the output. Where NUMBER is 0, BYTES are canonical records. -1 stands
@@ -80,6 +81,18 @@ ABOUT_BATCHES = """\
 # canonical HEX K                the first K bytes of HEX are canonical, and no other start of HEX is; none where K is 0
 #
 # HEX, SOURCE and BYTES are capital digits, two to a byte, or - for no bytes."""
+ABOUT_ENTRIES = """\
+# Cases for crates/entry_vectors, written by tools/vectors.py. The expectations come from the sentences and tables of
+# documents 01 and 02, by Python's arithmetic, and not from the code under test.
+#
+# = NAME                         the cases that follow, up to the next such line, are the group NAME
+# convert HEX ROOM NUMBER TAKEN GIVEN BYTES
+#                                converting the batch at the start of the bytes HEX into an output of ROOM bytes answers
+#                                NUMBER. Where that is 0, TAKEN bytes of HEX are taken, and the output begins with the
+#                                GIVEN bytes BYTES. Where it is 1, TAKEN is how many bytes are needed. What is not named
+#                                is 0, and all other bytes of the output always stay as they are
+#
+# HEX and BYTES are capital digits, two to a byte, or - for no bytes."""
 
 # Document 01, the rows of "Numbers of varying length": bytes and value, at both widths.
 ROWS = [
@@ -159,6 +172,8 @@ ASCII_AROUND = 17
  PAST_END, BEYOND_LIMITS, NEGATIVE_LENGTH, NOT_UTF8, UNKNOWN_CONTROL, BYTES_LEFT, NO_ROOM) = range(15)
 # Document 01, "Writer's numbers".
 WRONG_CODEC, WRONG_ROW, WRONG_KEY, TOO_LONG, SHORT_OUTPUT = range(20, 25)
+# Document 02, C-24, of both.
+BARE_MARKER = 41
 GREATEST_PLACE = 2 ** 64 - 1
 GREATEST_LENGTH = 2 ** 31 - 1
 
@@ -202,7 +217,7 @@ FIELDS = [
 ]
 LOG_APPEND, TRANSACTIONAL, CONTROL = 8, 16, 32
 ABORT, COMMIT = bytes(4), bytes([0, 0, 0, 1])
-# The markers alone, and in the key of a record.
+# The modes: no control batch at all, and markers in the key of a record.
 BARE, KEYED = "bare", "keyed"
 # A record's bytes and the number that they give, with enough before them and nothing behind.
 RECORD_FAULTS = [
@@ -214,7 +229,7 @@ RECORD_FAULTS = [
 # Bodies of control batches, and their numbers in bare and in keyed mode.
 CONTROL_BODIES = [
     ("1400000008000000000100", UNKNOWN_CONTROL, ACCEPTED), ("1400000008000000010100", UNKNOWN_CONTROL, ACCEPTED),
-    ("00000000", ACCEPTED, PAST_END), ("0C000000010100", UNKNOWN_CONTROL, UNKNOWN_CONTROL),
+    ("00000000", BARE_MARKER, BARE_MARKER), ("0C000000010100", UNKNOWN_CONTROL, UNKNOWN_CONTROL),
     ("12000000060000000100", UNKNOWN_CONTROL, UNKNOWN_CONTROL),
     ("1400000008000100000100", UNKNOWN_CONTROL, UNKNOWN_CONTROL),
     ("1400000008000000020100", UNKNOWN_CONTROL, UNKNOWN_CONTROL),
@@ -224,6 +239,13 @@ CONTROL_BODIES = [
 ]
 # The checksum of the first of them, where all fields are 0.
 CONTROL_CHECKSUM = bytes.fromhex("ECE51FAE")
+# Document 02, C-24: a commit that stands alone, and its checksum; and the checksum and the body of what it becomes.
+WITHDRAWN = dict(base_offset=5, leader_epoch=3, attributes=0x8070, last_offset_delta=0, first_timestamp=1000,
+                 max_timestamp=1000, producer_id=9, producer_epoch=1, base_sequence=-1)
+WITHDRAWN_CHECKSUM = bytes.fromhex("4D8495B3")
+CONVERTED_CHECKSUM, CONVERTED_BODY = bytes.fromhex("198B7A08"), bytes.fromhex("1400000008000000010100")
+# The conversion makes a batch longer by so many bytes, at most.
+CONVERTED_LONGER = 7
 # What the program's large batches show, and how many rows of each table there are.
 LARGE_SOURCE, LARGE_ROWS = 262144, (8192, 16384)
 # Kinds, in the order of their numbers.
@@ -882,10 +904,23 @@ def batch_body(batch, attributes, count, stream, mode):
         return 0, record_tables(batch, BODY, max(count, 0), 0)
     if count != 1:
         raise Refused(WRONG_COUNT)
-    return (marker_alone(stream) if mode == BARE else marker_in_key(batch)), ([], [])
+    return control_kind(batch, stream, mode), ([], [])
+
+
+def control_kind(batch, stream, mode):
+    """Document 02, C-24: where document 01 has a marker that is 41, in either mode. Any other control batch is refused
+    by document 01 in bare mode, and judged by C-16 in keyed mode."""
+    try:
+        marker_alone(stream)
+    except Refused:
+        if mode == BARE:
+            raise
+        return marker_in_key(batch)
+    raise Refused(BARE_MARKER)
 
 
 def marker_alone(stream):
+    """Document 01, a control batch: version and type, which end the batch."""
     if integer(stream, 2) != 0:
         raise Refused(UNKNOWN_CONTROL)
     kind = {0: ABORT_KIND, 1: COMMIT_KIND}.get(integer(stream, 2))
@@ -1007,7 +1042,7 @@ def batches_examples(text):
     for body in (ABORT, COMMIT):
         data = marker(body)
         assert data[8:12] == bytes([0, 0, 0, 53])
-        batch(text, ACCEPTED, data, keyed=PAST_END)
+        batch(text, BARE_MARKER, data)
 
 
 def batches_lengths(text):
@@ -1073,12 +1108,12 @@ def batches_fields(text):
         attributes = bits * LOG_APPEND
         batch(text, ACCEPTED, batch_of(attributes=attributes))
         for body in (ABORT, COMMIT):
-            batch(text, ACCEPTED, marker(body, attributes + CONTROL), keyed=PAST_END)
+            batch(text, BARE_MARKER, marker(body, attributes + CONTROL))
     for bit in (6, 7, 8, 11, 15):
         batch(text, ACCEPTED, batch_of(attributes=1 << bit))
     for attributes in (0xFFC0, 0xFFD8):
         batch(text, ACCEPTED, batch_of(attributes=attributes))
-        batch(text, ACCEPTED, marker(COMMIT, attributes + CONTROL), keyed=PAST_END)
+        batch(text, BARE_MARKER, marker(COMMIT, attributes + CONTROL))
     for attributes, expected in ((0xFFC1, COMPRESSED), (0xFFFD, UNKNOWN_CODEC)):
         batch(text, expected, batch_of(attributes=attributes))
 
@@ -1167,11 +1202,11 @@ def batches_order(text):
 
 
 def batches_control(text):
-    """A marker alone, its count 1."""
+    """A marker alone, its count 1, and all that is none."""
     text.heading("batches, control")
     for body in (ABORT, COMMIT):
         for room in ((0, 0), (7, 3), ROOM):
-            batch(text, ACCEPTED, marker(body), room=room, keyed=PAST_END)
+            batch(text, BARE_MARKER, marker(body), room=room)
         for more in (b"\0", b"\xff", body):
             batch(text, BYTES_LEFT, marker(body + more), keyed=PAST_END)
         for upto in range(4):
@@ -1192,6 +1227,41 @@ def batches_control(text):
     # the marker as the key of a record
     batch(text, UNKNOWN_CONTROL, marker(record_of(key_length="08", key="00000001", **NO_HEADER)), keyed=ACCEPTED)
     batch(text, UNKNOWN_CONTROL, marker(bytes.fromhex(RECORD_ROWS[0][0])))
+
+
+def batches_bare(text):
+    """A marker alone, whatever its fields and whatever follows it. What else is wrong with it is met first."""
+    text.heading("batches, bare markers")
+    worked = marker(COMMIT, **WITHDRAWN)
+    assert len(worked) == 65 and worked[BEFORE_CRC:CHECKED] == WITHDRAWN_CHECKSUM
+    batch(text, BARE_MARKER, worked, start=65)
+    batch(text, UNKNOWN_CONTROL, marker(bytes.fromhex("00010000"), **WITHDRAWN), keyed=PAST_END)
+    for body, other in ((ABORT, COMMIT), (COMMIT, ABORT)):
+        data = marker(body)
+        for tail in (b"", b"\0", b"\xff" * 17, data, marker(key_record(other))):
+            batch(text, BARE_MARKER, data + tail, start=65)
+        for bit in range(16):
+            batch(text, COMPRESSED if bit < 3 else BARE_MARKER, marker(body, CONTROL | 1 << bit))
+        batch(text, BARE_MARKER, marker(body, 0xFFF8))
+        for rank, (size, name) in enumerate(FIELDS):
+            for n in (different(size, 1 + 8 * rank), -2 ** (8 * size - 1)):
+                batch(text, BARE_MARKER, marker(body, **{name: n}))
+        # one fault each: of lengths, magic, checksum, codec, count and body
+        batch(text, LENGTH_TOO_SMALL, marker(body, batch_length=8))
+        batch(text, MORE_BYTES, marker(body, batch_length=54))
+        batch(text, UNKNOWN_MAGIC, marker(body, magic=1))
+        for wrong in (marker(body, crc=9), flipped(data, 20), flipped(data, 64), marker(body, batch_length=52)):
+            batch(text, CHECKSUM_DIFFERS, wrong)
+        for codec, expected in ((1, COMPRESSED), (3, COMPRESSED), (5, UNKNOWN_CODEC), (7, UNKNOWN_CODEC)):
+            batch(text, expected, marker(body, CONTROL + codec))
+        for count in (-2, -1, 0, 2):
+            batch(text, WRONG_COUNT, marker(body, count=count))
+        batch(text, UNKNOWN_CONTROL, marker(b"\0\1" + body[2:]), keyed=PAST_END)
+        batch(text, UNKNOWN_CONTROL, marker(body[:3] + b"\2"), keyed=PAST_END)
+        batch(text, BYTES_LEFT, marker(body + b"\0"), keyed=PAST_END)
+        batch(text, PAST_END, marker(body[:3]))
+        # no control batch: a record of no bytes
+        batch(text, PAST_END, marker(body, 0))
 
 
 def in_keyed(text, expected, body, bare=UNKNOWN_CONTROL, attributes=CONTROL, room=ROOM, **others):
@@ -1359,9 +1429,9 @@ def batches_followed(text):
     """Each start of a batch, and more behind it than the batch."""
     text.heading("batches, followed")
     records_batch, empty, commit = of_records(*three_records()), batch_of(), marker(COMMIT)
-    for data, keyed in ((records_batch, ACCEPTED), (empty, ACCEPTED), (commit, PAST_END)):
+    for data, expected in ((records_batch, ACCEPTED), (empty, ACCEPTED), (commit, BARE_MARKER)):
         for tail in (bytes(3), b"\xff" * 17, b"\2", empty, commit):
-            batch(text, ACCEPTED, data + tail, start=len(data), keyed=keyed)
+            batch(text, expected, data + tail, start=len(data))
     for data, expected, keyed in (
         (batch_of(crc=1), CHECKSUM_DIFFERS, None), (batch_of(attributes=7), UNKNOWN_CODEC, None),
         (batch_of(attributes=3), COMPRESSED, None), (batch_of(count=-2), WRONG_COUNT, None),
@@ -1441,8 +1511,9 @@ def written_batch(source, kind, count, records, headers, fields, mode):
     values = dict(zip((name for _, name in FIELDS), values))
     attributes = log_append * LOG_APPEND + transactional * TRANSACTIONAL
     if kind:
-        alone = (ABORT, COMMIT)[kind - 1]
-        return marker(alone if mode == BARE else key_record(alone), attributes + CONTROL, **values)
+        if mode == BARE:
+            raise Refused(BARE_MARKER)
+        return marker(key_record((ABORT, COMMIT)[kind - 1]), attributes + CONTROL, **values)
     return of_records(*written_records(source, count, records, headers), attributes=attributes, **values)
 
 
@@ -1465,14 +1536,19 @@ def contents(source, records, headers):
 
 
 def write(text, expected, rows=(), header_rows=(), count=None, source=SOURCE, codec=0, kind=RECORDS_KIND, more=((), ()),
-          fields=(1, 2, 3, 4, 5, 6, 7, 8, 0, 0)):
-    """A case whose number is expected, in both modes, by whoever puts it here. Numbers may follow the rows of both
-    tables."""
+          fields=(1, 2, 3, 4, 5, 6, 7, 8, 0, 0), bare=None):
+    """A case whose number is expected by whoever puts it here. In bare mode it is the same where nothing else is said.
+    Numbers may follow the rows of both tables."""
     count = len(rows) if count is None else count
     records = [n for row in rows for n in row] + list(more[0])
     headers = [n for row in header_rows for n in row] + list(more[1])
-    text.cases(*(write_words(mode, expected, records, headers, count, source, codec, kind, fields)
-                 for mode in (BARE, KEYED)))
+    text.cases(*(write_words(mode, number, records, headers, count, source, codec, kind, fields)
+                 for mode, number in ((BARE, expected if bare is None else bare), (KEYED, expected))))
+
+
+def write_marker(text, kind, *tables, **others):
+    """A marker that is written in keyed mode, and in bare mode refused, whatever else is asked."""
+    write(text, ACCEPTED, *tables, kind=kind, bare=BARE_MARKER, **others)
 
 
 def write_words(mode, expected, records, headers, count, source, codec, kind, fields):
@@ -1535,7 +1611,7 @@ def written_examples(text):
         for value in (null, (15, 0), (7, 8)):
             write(text, ACCEPTED, [row(key=key, value=value)])
     for kind in (ABORT_KIND, COMMIT_KIND):
-        write(text, ACCEPTED, kind=kind, source=b"", fields=zeros)
+        write_marker(text, kind, source=b"", fields=zeros)
 
 
 def written_fields(text):
@@ -1553,8 +1629,10 @@ def written_fields(text):
     fields([-1 for _ in FIELDS], (1, 1))
     for log_append in (0, 1):
         for transactional in (0, 1):
-            for kind in (RECORDS_KIND, ABORT_KIND, COMMIT_KIND):
-                write(text, ACCEPTED, kind=kind, fields=(1, 2, 3, 4, 5, 6, 7, 8, log_append, transactional))
+            flagged = (1, 2, 3, 4, 5, 6, 7, 8, log_append, transactional)
+            write(text, ACCEPTED, fields=flagged)
+            for kind in (ABORT_KIND, COMMIT_KIND):
+                write_marker(text, kind, fields=flagged)
 
 
 def written_codec(text):
@@ -1740,17 +1818,17 @@ def written_order(text):
 
 
 def written_markers(text):
-    """A marker looks at no table, no source and no count."""
+    """A marker looks at no table, no source and no count, and in bare mode there is none."""
     text.heading("written, markers")
     for kind in (ABORT_KIND, COMMIT_KIND):
         for log_append in (0, 1):
             for transactional in (0, 1):
                 fields = (-1, -2, -3, -4, -5, -6, -7, -8, log_append, transactional)
-                write(text, ACCEPTED, [[-3] * 8], [[-5] * 4], count=0, kind=kind, fields=fields)
-        write(text, ACCEPTED, [[2 ** 63 - 1] * 8], [[-2 ** 63] * 4], kind=kind, more=((1,) * 7, (1,) * 3))
-        write(text, ACCEPTED, [row(headers=(0, 1))], [header_row(key=(0, 1))], kind=kind, source=b"\xff" * 15)
+                write_marker(text, kind, [[-3] * 8], [[-5] * 4], count=0, fields=fields)
+        write_marker(text, kind, [[2 ** 63 - 1] * 8], [[-2 ** 63] * 4], more=((1,) * 7, (1,) * 3))
+        write_marker(text, kind, [row(headers=(0, 1))], [header_row(key=(0, 1))], source=b"\xff" * 15)
         for count in (1, 2, 2 ** 31, GREATEST_PLACE):
-            write(text, ACCEPTED, count=count, kind=kind, source=b"")
+            write_marker(text, kind, count=count, source=b"")
 
 
 def written_several(text):
@@ -1866,7 +1944,7 @@ def canonical_batches(text):
     text.heading("canonical, batches")
     one = of_records(record_of())
     for data, modes in (
-        (batch_of(), (1, 1)), (one, (1, 1)), (marker(ABORT), (1, 0)), (marker(COMMIT), (1, 0)),
+        (batch_of(), (1, 1)), (one, (1, 1)), (marker(ABORT), (0, 0)), (marker(COMMIT), (0, 0)),
         (marker(key_record(ABORT)), (0, 1)), (marker(key_record(COMMIT)), (0, 1)),
         (of_records(*three_records()), (1, 1)),
     ):
@@ -1881,7 +1959,7 @@ def canonical_batches(text):
             canonical(text, flipped(data, place), *whole)
     for bits in range(4):
         canonical(text, batch_of(attributes=bits * LOG_APPEND))
-        canonical(text, marker(COMMIT, bits * LOG_APPEND + CONTROL), keyed=0)
+        canonical(text, marker(COMMIT, bits * LOG_APPEND + CONTROL), 0)
         canonical(text, marker(key_record(COMMIT), bits * LOG_APPEND + CONTROL), 0, keyed=72)
     for bit in range(6, 16):
         canonical(text, batch_of(attributes=1 << bit), 0)
@@ -1977,6 +2055,118 @@ def canonical_records(text):
     canonical(text, of_records(*parts, b"\0", count=3), 0)
 
 
+def in_key(data):
+    """A marker that stands alone put into the key of a record. All fields are kept but batchLength and the checksum."""
+    checked = data[CHECKED:BODY] + key_record(data[BODY:BODY + 4])
+    named = (CHECKED - UNCOUNTED + len(checked)).to_bytes(4, "big")
+    return data[:8] + named + data[UNCOUNTED:BEFORE_CRC] + crc32c(checked).to_bytes(4, "big") + checked
+
+
+def conversion_of(data):
+    """Document 02, C-24: the number, the bytes taken, or needed, and those that are given."""
+    try:
+        (*_, whole), _ = batch_parts(data, KEYED)
+    except Refused as refused:
+        found, *needed = refused.args
+        return (ACCEPTED, 65, in_key(data)) if found == BARE_MARKER else (found, sum(needed), b"")
+    return ACCEPTED, whole, data[:whole]
+
+
+def convert(text, expected, data, rooms=()):
+    """A case whose number is expected by whoever puts it here, in an output that is always long enough, and in others;
+    and what is given is given again for itself."""
+    found, taken, given = conversion_of(data)
+    assert found == expected, (data.hex(), found, expected)
+    assert len(given) <= taken + CONVERTED_LONGER
+    for room in (*rooms, (taken if given else len(data)) + CONVERTED_LONGER):
+        answer = (SHORT_OUTPUT, 0, 0, b"") if room < len(given) else (found, taken, len(given), given)
+        text.case("convert", data, room, *answer)
+    if given not in (b"", data):
+        assert conversion_of(given) == (ACCEPTED, len(given), given)
+        convert(text, ACCEPTED, given)
+
+
+def around(size):
+    """Outputs with no room, and with less, just enough and more than there has to be."""
+    return 0, 1, size - 1, size, size + 1, size + 100
+
+
+def conversion(text):
+    text.heading("conversion")
+    converted_markers(text)
+    converted_others(text)
+    converted_refusals(text)
+
+
+def converted_markers(text):
+    """Markers that stand alone: every attribute bit and every field is kept, and what follows is not looked at."""
+    worked = marker(COMMIT, **WITHDRAWN)
+    assert in_key(worked) == (worked[:8] + b"\0\0\0\x3c" + worked[12:17] + CONVERTED_CHECKSUM + worked[21:61]
+                              + CONVERTED_BODY) and worked[21:23] == b"\x80\x70"
+    convert(text, ACCEPTED, worked, around(72))
+    for end in range(len(worked)):
+        convert(text, MORE_BYTES, worked[:end])
+    for body, other in ((ABORT, COMMIT), (COMMIT, ABORT)):
+        for bit in range(16):
+            convert(text, COMPRESSED if bit < 3 else ACCEPTED, marker(body, CONTROL | 1 << bit), (71,))
+        for attributes in (0xFFF8, 0xFFE0, CONTROL + LOG_APPEND + TRANSACTIONAL):
+            convert(text, ACCEPTED, marker(body, attributes))
+        for sign in (1, -1):
+            convert(text, ACCEPTED, marker(body, **{name: sign * different(size, 1 + 8 * rank)
+                                                    for rank, (size, name) in enumerate(FIELDS)}))
+        for size, name in FIELDS:
+            convert(text, ACCEPTED, marker(body, **{name: -2 ** (8 * size - 1)}))
+        for tail in (b"\0", b"\xff" * 17, marker(other), marker(key_record(other)), of_records(record_of())):
+            convert(text, ACCEPTED, marker(body) + tail)
+
+
+def converted_others(text):
+    """Batches that keyed mode accepts are given as they stand, canonical or not, whatever tables they would need."""
+    empty, none = batch_of(), bytes.fromhex(RECORD_ROWS[0][0])
+    brokers = key_record(ABORT, **valued(bytes.fromhex("000000000005")))
+    batches = [
+        empty, batch_of(count=-1, attributes=0xFFD8), of_records(record_of()), of_records(*three_records()),
+        of_records(record_of(attributes="7F", timestamp="81808000")), of_records(*[none] * 40),
+        of_records(with_headers(*[pair(b"k", b"v")] * 30)), marker(key_record(ABORT)), marker(key_record(COMMIT)),
+        marker(brokers, CONTROL + TRANSACTIONAL), marker(key_record(COMMIT + b"\xa0"), 0xFFE0),
+        marker(record_of(key_length="08", key=COMMIT.hex())),
+    ]
+    for data in batches:
+        convert(text, ACCEPTED, data, around(len(data)))
+        for tail in (b"\2", marker(ABORT)):
+            convert(text, ACCEPTED, data + tail, (len(data),))
+    # a batch of records with the bytes of a marker that stands alone in it
+    convert(text, ACCEPTED, of_records(record_of(**valued(marker(COMMIT)))))
+    for whole in (marker(key_record(COMMIT)), of_records(record_of())):
+        for end in (0, 11, 12, 16, 17, 20, 60, 61, 64, 65, len(whole) - 1):
+            convert(text, MORE_BYTES, whole[:end])
+
+
+def converted_refusals(text):
+    """Each number of keyed mode, of control batches and of others, also with more behind the batch."""
+    unknown = [marker(key_record(key)) for key in (None, ABORT[:3], b"\0\1\0\0", b"\0\0\0\2", b"\xa0" + COMMIT)]
+    refused = [
+        *((LENGTH_TOO_SMALL, marker(COMMIT, batch_length=named)) for named in (8, -1)),
+        *((UNKNOWN_MAGIC, marker(COMMIT, magic=magic)) for magic in (1, 3)),
+        (CHECKSUM_DIFFERS, marker(COMMIT, crc=9)), (CHECKSUM_DIFFERS, flipped(marker(COMMIT), 64)),
+        (CHECKSUM_DIFFERS, flipped(marker(key_record(COMMIT)), 20)), (CHECKSUM_DIFFERS, flipped(batch_of(), 22)),
+        *((UNKNOWN_CODEC, marker(ABORT, CONTROL + codec)) for codec in (5, 6, 7)),
+        *((COMPRESSED, marker(ABORT, CONTROL + codec)) for codec in (1, 2, 3, 4)),
+        *((WRONG_COUNT, marker(body, count=count)) for body in (COMMIT, key_record(COMMIT)) for count in (-2, 0, 2)),
+        # four bytes that are no marker, and a marker with a byte more or less, or of a batch of records
+        (PAST_END, marker(bytes.fromhex("00010000"), **WITHDRAWN)),
+        *((PAST_END, marker(bytes.fromhex(body))) for body in ("00010000", "00000002", "0000000100", "000000", "")),
+        (NEGATIVE_LENGTH, marker(bytes.fromhex("01000000"))), (PAST_END, marker(COMMIT, 0)),
+        *((UNKNOWN_CONTROL, data) for data in unknown),
+        (BYTES_LEFT, marker(key_record(COMMIT) + b"\0")), (BYTES_LEFT, batch_of(b"\0")),
+        *((expected, make(bytes.fromhex(fault))) for fault, expected in RECORD_FAULTS for make in (of_records, marker)),
+    ]
+    assert {number for number, _ in refused} == set(range(2, 14))
+    for expected, data in refused:
+        convert(text, expected, data, (0,))
+        convert(text, expected, data + marker(COMMIT))
+
+
 def vectors(text):
     document_rows(text)
     for kind in WIDTHS:
@@ -2009,6 +2199,7 @@ def batch_vectors(text):
     batches_checksum(text)
     batches_order(text)
     batches_control(text)
+    batches_bare(text)
     batches_keyed(text)
     batches_keyed_unknown(text)
     batches_keyed_faults(text)
@@ -2034,9 +2225,16 @@ def batch_vectors(text):
     canonical_records(text)
 
 
+def entry_vectors(text):
+    conversion(text)
+
+
 def main():
     name, = sys.argv[1:]
-    about, fill = {"vectors": (ABOUT, vectors), "batch_vectors": (ABOUT_BATCHES, batch_vectors)}[name]
+    about, fill = {
+        "vectors": (ABOUT, vectors), "batch_vectors": (ABOUT_BATCHES, batch_vectors),
+        "entry_vectors": (ABOUT_ENTRIES, entry_vectors),
+    }[name]
     text = Text(about)
     fill(text)
     print(text.whole(), end="")

@@ -107,11 +107,12 @@ pub record Example : Type 0 where
   pub headerRows : List ℤ
   -- document 01, Record time: of each record
   pub times : List (Option ℤ)
-  -- what the writer gives for the batch: these very bytes, where they are canonical
+  -- what the writer gives for the batch: these very bytes, where they are canonical; where a marker stands alone, what
+  -- it gave before C-24
   pub written : List ℕ
   -- bindings/c/oddrafisk.h: the sixteen entries
   pub entries : List ℤ
-  -- document 01, The listing: its line
+  -- document 01, The listing: its line; where a marker stands alone there is none
   pub line : List ℕ
 
 -- bytes that are no batch, how many records they name where one of these is wrong, document 01's number, and where that
@@ -139,12 +140,17 @@ pub record Listed : Type 0 where
 ABOUT_KEYED = """\
 -- Worked control batches as brokers write them, written by tools/worked.py keyed: the marker stands in the key of a
 -- record. The values come from the tables of document 01, from Kafka's page and from bindings/c/oddrafisk.h, by
--- Python's arithmetic, and from no other definition. The listing reads none of them, so that they have no line.
+-- Python's arithmetic, and from no other definition.
 use Prim.Native.Nat.{ℕ}
 use mathlib.Core.Bool.{true, false}
 use mathlib.Core.List.{List, [], _∷_}
 use lib.IntN.{pos}
-use Rattle.examples.specs.Examples.{hex, minus, anAbort, aCommit, Example}
+use Rattle.examples.specs.Examples.{text, hex, minus, anAbort, aCommit, Example}
+
+-- a stored batch, and what it is converted to
+pub record Stored : Type 0 where
+  pub bytes : List ℕ
+  pub converted : List ℕ
 """
 
 SAMPLES = pathlib.Path(__file__).resolve().parent.parent / "samples"
@@ -181,6 +187,11 @@ UNLIKE_RECORDS = [
 ]
 NEGATIVE = {name: -1 - place for place, name in enumerate(FIELDS)}
 LATE = {**UNLIKE, "firstTimestamp": LARGEST}
+# C-24's worked batch.
+HIGH = dict(
+    baseOffset=5, partitionLeaderEpoch=3, lastOffsetDelta=0, firstTimestamp=1000, maxTimestamp=1000, producerId=9,
+    producerEpoch=1, baseSequence=-1,
+)
 LATE_RECORDS = [Record(1, 0, None, b"", []), Record(-1, 1, b"", None, [(b"", b"k")])]
 
 # Document 01: a record of the smallest kind, whose fields are changed below.
@@ -441,6 +452,10 @@ def fixed_lines(data):
     return [cut(data[:CHECKED], [8, 12, 16, 17]).strip(), cut(data[CHECKED:BODY], [2, 6, 14, 22, 30, 32, 36]).strip()]
 
 
+def all_lines(data):
+    return [*fixed_lines(data), data[BODY:].hex().upper()]
+
+
 def plain_record(record):
     header = "record { key = %s; value = %s }"
     return of_fields({
@@ -472,7 +487,7 @@ def example(name, data, about, keyed=False):
         "times": " ∷ ".join(["some (%s)" % number(t) if LEAST <= t <= LARGEST else "none" for t in times] + ["[]"]),
         "written": name if given == data else hexed(fixed_lines(given) + decoded(given, keyed).lines, 10),
         "entries": in_record([row(four) for four in entries(batch, len(data))]),
-        "line": "[]" if keyed else "text " + quoted(line(batch, len(data))),
+        "line": "[]" if batch.marker and not keyed else "text " + quoted(line(batch, len(data))),
     }))
 
 
@@ -485,7 +500,7 @@ def table(name, kind, items, about):
 
 
 def refusal(data, count, number, needed=0):
-    digits = hexed([*fixed_lines(data), data[BODY:].hex().upper()], 10)
+    digits = hexed(all_lines(data), 10)
     return of_fields({"bytes": digits, "count": str(count), "number": str(number), "needed": str(needed)})
 
 
@@ -534,9 +549,9 @@ def row_refusals():
 
 
 def listed(batches, after, end):
-    """A file of batches with some bytes after them, and its listing up to the last line."""
-    file = [*batches, hexed(fixed_lines(after), 10)] if after else [*batches]
-    text = [HEADING, *(line(decoded(data), len(data)) for data in batches.values()), end]
+    """A file of batches with some bytes after them, and its listing up to the last line. Markers are keyed."""
+    file = [*batches, hexed(all_lines(after), 10)] if after else [*batches]
+    text = [HEADING, *(line(decoded(data, keyed=True), len(data)) for data in batches.values()), end]
     return of_fields({
         "file": " ++ (".join(file) + ")" * (len(file) - 1),
         "listing": "lines (%s)" % several(map(quoted, text), 10),
@@ -578,16 +593,46 @@ def keyed_examples():
     }
 
 
+def conversions():
+    """Document 02, C-24: all fixed fields are kept but length and checksum. A keyed batch is copied."""
+    def stored(data, given, about):
+        return of_fields({"bytes": hexed(all_lines(data), 10), "converted": hexed(all_lines(given), 10)}), about
+
+    def rekeyed(data):
+        body = marker_record(data[BODY:])
+        checked = data[CHECKED:BODY] + body
+        counted = data[UNCOUNTED:CRC] + struct.pack(">I", crc32c(checked)) + checked
+        return data[:8] + struct.pack(">i", len(counted)) + counted
+
+    high = batch_bytes(HIGH, COMMIT, 1, 0x8070)
+    assert rekeyed(high)[CRC:CHECKED].hex() == "198b7a08" and high[CRC:CHECKED].hex() == "4d8495b3"
+    markers = marker_examples()
+    keyed = keyed_examples()["keyed"][0]
+    return [
+        stored(markers["committed"][0], rekeyed(markers["committed"][0]), "a commit"),
+        stored(markers["aborted"][0], rekeyed(markers["aborted"][0]), "an abort"),
+        stored(high, rekeyed(high), "attribute bits above 5, as they stand"),
+        stored(keyed, keyed, "a keyed marker"),
+    ]
+
+
 def keyed_parts():
     batches = keyed_examples()
     yield ABOUT_KEYED
     for name, (data, about) in batches.items():
         yield from example(name, data, about, keyed=True)
     yield defined("keyedExamples", "List Example", " ∷ ".join([*(batch + "Example" for batch in batches), "[]"]))
+    about = "stored control batches whose marker stands alone, and a keyed one"
+    yield table("conversions", "Stored", conversions(), about)
 
 
 def listings(batches):
-    some = {name: batches[name][0] for name in ("unlike", "committed", "bare", "aborted")}
+    committed = batch_bytes(UNLIKE, marker_record(COMMIT), 1, CONTROL + TRANSACTIONAL)
+    aborted = batch_bytes(NEGATIVE, marker_record(ABORT), 1, CONTROL + LOG_APPEND)
+    some = {
+        "unlike": batches["unlike"][0], hexed(all_lines(committed), 10): committed,
+        "bare": batches["bare"][0], hexed(all_lines(aborted), 10): aborted,
+    }
     size = sum(map(len, some.values()))
     one = {"kcat": batches["kcat"][0]}
     wrong = batch_bytes(UNLIKE, b"", 0, magic=1)
@@ -595,6 +640,7 @@ def listings(batches):
         (listed(some, bytes(3), "stop 1 at %d\n" % size), "three bytes stand after the last batch"),
         (listed(one, b"", "end at %d\n" % len(one["kcat"])), "none do"),
         (listed(one, wrong, "stop 3 at %d\n" % len(one["kcat"])), "what is no batch does"),
+        (listed(one, batches["committed"][0], "stop 41 at %d\n" % len(one["kcat"])), "a marker that stands alone does"),
     ]
 
 

@@ -1,16 +1,14 @@
 /* Prints the records of a log, a line each: offset, key and value.
  *
  *     cc -std=c11 example.c $(pkg-config --cflags --libs oddrafisk) -o example
- *     example [bare|keyed] LOG
+ *     example LOG
  *
- * A log of a broker is to be read as `keyed`. One without markers may be read as either; `bare` is the default. Where
- * the log cannot be read on, it says the place, the number and its words on standard error and ends with 1. */
+ * Where the log cannot be read on, it says the place, the number and its words on standard error and ends with 1. */
 #include <oddrafisk.h>
 
 #include <inttypes.h>
 #include <stdio.h>
 #include <stdlib.h>
-#include <string.h>
 
 /* So many bytes in place of those at `old`, which may be null. They are never null, even where the size is 0. */
 static void *room(void *old, size_t size)
@@ -67,9 +65,10 @@ static void show_record(const uint8_t *bytes, int64_t base_offset, const int64_t
     putchar('\n');
 }
 
-/* Shows the batch that the bytes begin with, and answers as oddrafisk_check does. */
-static uint32_t show_batch(uint32_t mode, const uint8_t *bytes, size_t bytes_count, int64_t answer[ODDRAFISK_ENTRIES])
+/* Shows the batch that the bytes begin with, and answers as oddrafisk_check does. A marker has no records. */
+static uint32_t show_batch(const uint8_t *bytes, size_t bytes_count, int64_t answer[ODDRAFISK_ENTRIES])
 {
+    const uint32_t mode = ODDRAFISK_KEYED;
     uint32_t number = oddrafisk_check(mode, bytes, bytes_count, answer);
     if (number != ODDRAFISK_ACCEPTED)
         return number;
@@ -87,20 +86,17 @@ static uint32_t show_batch(uint32_t mode, const uint8_t *bytes, size_t bytes_cou
 
 int main(int count, char **words)
 {
-    int keyed = count == 3 && strcmp(words[1], "keyed") == 0;
-    int right = count == 2 || keyed || (count == 3 && strcmp(words[1], "bare") == 0);
-    if (!right || oddrafisk_version() != ODDRAFISK_VERSION) {
-        fputs(right ? "example: it is linked with another version\n" : "usage: example [bare|keyed] LOG\n", stderr);
+    if (count != 2 || oddrafisk_version() != ODDRAFISK_VERSION) {
+        fputs(count == 2 ? "example: it is linked with another version\n" : "usage: example LOG\n", stderr);
         return EXIT_FAILURE;
     }
-    const char *name = words[count - 1];
-    uint32_t mode = keyed ? ODDRAFISK_KEYED : ODDRAFISK_BARE;
+    const char *name = words[1];
     int64_t answer[ODDRAFISK_ENTRIES];
     size_t bytes_count, place = 0;
     uint8_t *bytes = file_bytes(name, &bytes_count);
     uint32_t number = ODDRAFISK_ACCEPTED;
     while (place < bytes_count && number == ODDRAFISK_ACCEPTED) {
-        number = show_batch(mode, bytes + place, bytes_count - place, answer);
+        number = show_batch(bytes + place, bytes_count - place, answer);
         if (number == ODDRAFISK_ACCEPTED)
             place += (size_t)answer[ODDRAFISK_BYTES];
     }

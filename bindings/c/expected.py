@@ -3,8 +3,8 @@
 
     bindings/c/expected.py LOG
 
-The log is taken to have no fault but that it may be cut off: then the last line is what is to be said of that. Markers,
-of whichever form, print nothing."""
+The log is taken to have no fault but that it may be cut off or have a bare marker: then the last line is what is to be
+said of that. Other markers print nothing."""
 import struct
 import sys
 
@@ -39,20 +39,27 @@ def show_record(log, at, base):
     return at + length
 
 
+# The bytes of an abort and of a commit in the bare form.
+BARE = bytes(4), bytes(3) + b"\1"
+
+
 def main(name):
     log = open(name, "rb").read()
-    place, end = 0, 0
+    place, stop = 0, "1: more bytes are needed"
     while len(log) - place >= 12:
         base, length = struct.unpack_from(">qi", log, place)
         end = place + 12 + length
         if end > len(log):
             break
         attributes, at = struct.unpack_from(">h", log, place + 21)[0], place + 61
+        if attributes & 32 and log[at:end] in BARE:
+            stop = "41: bare markers are withdrawn; `oddrafisk convert IN OUT` converts a stored log"
+            break
         for _ in range(0 if attributes & 32 else struct.unpack_from(">i", log, place + 57)[0]):
             at = show_record(log, at, base)
         place = end
     if place < len(log):
-        print("%s: stopped at %d by number 1: more bytes are needed" % (name, place))
+        print("%s: stopped at %d by number %s" % (name, place, stop))
 
 
 main(sys.argv[1])

@@ -30,20 +30,22 @@
  * while entries count rows: ODDRAFISK_RECORD_NUMBERS(rows) and ODDRAFISK_HEADER_NUMBERS(rows) are the numbers of so
  * many rows. It has as many rows as are whole; what is left over is never touched.
  *
- * MODES. A control batch, which ends a transaction, has a marker in place of records, and markers have two forms. The
- * mode, the first parameter of the functions that read and write, says which of them is meant:
- * - ODDRAFISK_KEYED for what brokers write: for their logs, and for what consumers fetch. The marker is a record whose
- *   key begins with version and type, two bytes each. It is read as any record is, and all else in it is ignored:
- *   further bytes of the key, value, headers, deltas and attributes. The writer gives a key of four bytes, zero deltas,
- *   a null value and no headers: 72 bytes in all. Brokers write a value of six bytes after the key; such a marker is
- *   read, and is not canonical.
- * - ODDRAFISK_BARE for the form of the Rust crate rskafka: version and type alone, four bytes after the fixed fields,
- *   65 in all. The crate for Rust, the program oddrafisk and the examples have this mode unless they are told
- *   otherwise.
- * A control batch of the one form is refused in the mode of the other: a keyed one by ODDRAFISK_UNKNOWN_CONTROL, a bare
- * one by ODDRAFISK_PAST_END. Batches of records are read and written alike in both modes, and the returns 1 to 7 are
- * the same. In both a control batch needs no rows: its counts of records and headers are 0, and ODDRAFISK_NO_ROOM is
- * never returned for it.
+ * MODES. A control batch, which ends a transaction, has a marker in place of records. The mode, the first parameter of
+ * the functions that read and write, says whether there are markers:
+ * - ODDRAFISK_KEYED is what a program wants: the marker is a record whose key begins with version and type, two bytes
+ *   each, as brokers write it. It is read as any record is, and all else in it is ignored: further bytes of the key,
+ *   value, headers, deltas and attributes. The writer gives a key of four bytes, zero deltas, a null value and no
+ *   headers: 72 bytes in all. Brokers write a value of six bytes after the key; such a marker is read, and is not
+ *   canonical.
+ * - ODDRAFISK_BARE reads and writes batches of records alone. A marker that is asked for is refused by
+ *   ODDRAFISK_BARE_MARKER, and every control batch is refused, a keyed one by ODDRAFISK_UNKNOWN_CONTROL.
+ * Batches of records are read and written alike in both modes, and the returns 1 to 7 are the same. A control batch
+ * needs no rows: its counts of records and headers are 0, and ODDRAFISK_NO_ROOM is never returned for it.
+ *
+ * BARE MARKERS. Before version 0.4.0 a marker could also be bare, as the Rust crate rskafka has it: version and type
+ * alone, four bytes after the fixed fields, 65 in all. That form is withdrawn. Exactly where such a batch was accepted
+ * it is refused by ODDRAFISK_BARE_MARKER, in either mode. oddrafisk_convert makes a keyed marker of it, for files that
+ * are stored, and the program `oddrafisk convert` does so for whole files.
  */
 #ifndef ODDRAFISK_H
 #define ODDRAFISK_H
@@ -62,10 +64,11 @@ _Static_assert(sizeof(size_t) == 8, "liboddrafisk.a is for processors on which s
 extern "C" {
 #endif
 
-/* The version of this header, 0.3.0, as one number: 1.2.3 would be 1002003. */
-#define ODDRAFISK_VERSION 3000
+/* The version of this header, 0.4.0, as one number: 1.2.3 would be 1002003. */
+#define ODDRAFISK_VERSION 4000
 
-/* The modes: which form markers have. Every other number is the bare mode, so that each has an answer. */
+/* The modes: whether there are markers, which are keyed. Every other number is the bare mode, so that each has an
+ * answer. */
 enum { ODDRAFISK_BARE = 0, ODDRAFISK_KEYED = 1 };
 
 /* The places of a batch's entries. */
@@ -132,10 +135,12 @@ enum {
     ODDRAFISK_KEY_NOT_UTF8 = 11,     /* the key of a header is not UTF-8 */
     ODDRAFISK_UNKNOWN_CONTROL = 12,  /* version or type of a marker unknown; keyed, also a key null or below 4 bytes */
     ODDRAFISK_BYTES_LEFT = 13,       /* bytes left in a record, or after the last record or the marker */
-    ODDRAFISK_NO_ROOM = 14           /* a table is short: ODDRAFISK_RECORDS and ODDRAFISK_HEADERS are the rows needed */
+    ODDRAFISK_NO_ROOM = 14,          /* a table is short: ODDRAFISK_RECORDS and ODDRAFISK_HEADERS are the rows needed */
+    ODDRAFISK_BARE_MARKER = 41       /* a bare marker, with no other fault; a refusal of the batch, as 2 to 13 are */
 };
 
-/* What the writer returns, beside 0. */
+/* What the writer returns, beside 0 and ODDRAFISK_BARE_MARKER: that is a marker that is asked for in the bare mode, and
+ * comes after 20 and before 21. */
 enum {
     ODDRAFISK_CODEC_ASKED = 20,      /* the codec is not 0 */
     ODDRAFISK_WRONG_ROW = 21,        /* entries or rows that no batch has */
@@ -144,39 +149,40 @@ enum {
     ODDRAFISK_SHORT_OUTPUT = 24      /* the output is shorter than the batch */
 };
 
-/* What the bytes begin with: returns ODDRAFISK_ACCEPTED or 1 to 13. It needs no tables, and where it accepts says with
- * ODDRAFISK_RECORDS and ODDRAFISK_HEADERS how many rows oddrafisk_read needs. A return other than ODDRAFISK_MORE_BYTES
- * stands whatever bytes may follow.
+/* What the bytes begin with: returns ODDRAFISK_ACCEPTED, 1 to 13 or ODDRAFISK_BARE_MARKER. It needs no tables, and
+ * where it accepts says with ODDRAFISK_RECORDS and ODDRAFISK_HEADERS how many rows oddrafisk_read needs. A return other
+ * than ODDRAFISK_MORE_BYTES stands whatever bytes may follow.
  *
  * GOING ON AFTER DAMAGE. Lent the first 17 bytes of a batch and no more, it returns ODDRAFISK_MORE_BYTES and in
  * ODDRAFISK_BYTES how many bytes the whole batch has, which is always above 17; unless these bytes refuse it already,
  * by 2 or 3, or there are fewer of them, and ODDRAFISK_BYTES is 12 or 17. So one can pass over a batch that is refused
- * by 4 to 13: the next starts that many bytes after the beginning of this one. Never look byte by byte for the next
- * place where this function accepts: a value may hold a batch, as a log does that is kept in a record, and that would
- * be taken for one of this log. The length is not covered by the checksum. Where it is damaged itself, no batch of this
- * log need begin at the place that it leads to: what stands there is judged as any bytes are, and so may be a batch
- * inside a value. Go on only where to lose or to misread batches is better than to stop, and hold the base offset of
- * what comes next to those before. */
+ * by 4 to 13 or by ODDRAFISK_BARE_MARKER: the next starts that many bytes after the beginning of this one. Never look
+ * byte by byte for the next place where this function accepts: a value may hold a batch, as a log does that is kept in
+ * a record, and that would be taken for one of this log. The length is not covered by the checksum. Where it is damaged
+ * itself, no batch of this log need begin at the place that it leads to: what stands there is judged as any bytes are,
+ * and so may be a batch inside a value. Go on only where to lose or to misread batches is better than to stop, and hold
+ * the base offset of what comes next to those before. */
 uint32_t oddrafisk_check(uint32_t mode, const uint8_t *bytes, size_t bytes_count, int64_t answer[ODDRAFISK_ENTRIES]);
 
 /* The same, and the rows of the batch's records and of their headers in the first rows of both tables; all else in the
- * tables is as it was, and every return but ODDRAFISK_ACCEPTED leaves them untouched. Returns ODDRAFISK_ACCEPTED or 1
- * to 14. Tables need not be cleared first. They are lent by their numbers and the answer counts rows, so what
- * oddrafisk_check or ODDRAFISK_NO_ROOM asks for is lent as
+ * tables is as it was, and every return but ODDRAFISK_ACCEPTED leaves them untouched. Returns ODDRAFISK_ACCEPTED, 1 to
+ * 14 or ODDRAFISK_BARE_MARKER. Tables need not be cleared first. They are lent by their numbers and the answer counts
+ * rows, so what oddrafisk_check or ODDRAFISK_NO_ROOM asks for is lent as
  *     ODDRAFISK_RECORD_NUMBERS(answer[ODDRAFISK_RECORDS]) and ODDRAFISK_HEADER_NUMBERS(answer[ODDRAFISK_HEADERS])
  * numbers, each of sizeof(int64_t) bytes. */
 uint32_t oddrafisk_read(uint32_t mode, const uint8_t *bytes, size_t bytes_count, int64_t *records,
                         size_t record_numbers, int64_t *headers, size_t header_numbers,
                         int64_t answer[ODDRAFISK_ENTRIES]);
 
-/* How many bytes the batch has when it is written: answer[0], where 0 is returned; else 20 to 23 is returned, and
- * answer[0] is 0. It has the entries of `batch`, and where its kind is of records, as many as ODDRAFISK_RECORDS says,
- * from the first rows of both tables; their spans lie in the source. A marker looks at neither that number nor tables
- * nor source. `codec` other than 0 is refused. ODDRAFISK_WRONG_ROW is an entry that leaves its width, a timestamp type
- * or a flag that is neither 0 nor 1, an unknown kind, or an entry not named that is not 0; and where the kind is of
- * records, a count of them below 0, more records than rows, or in a row a span outside the source, a length that its
- * place does not allow, null with a start that is not 0, an offset delta that leaves 32 bits, a number of headers below
- * 0, or headers that do not run on or run past their table. */
+/* How many bytes the batch has when it is written: answer[0], where 0 is returned; else 20 to 23 or
+ * ODDRAFISK_BARE_MARKER is returned, and answer[0] is 0. It has the entries of `batch`, and where its kind is of
+ * records, as many as ODDRAFISK_RECORDS says, from the first rows of both tables; their spans lie in the source. A
+ * marker looks at neither that number nor tables nor source. `codec` other than 0 is refused first; then, in the bare
+ * mode, the kind of a marker, whatever the other entries are. ODDRAFISK_WRONG_ROW is an entry that leaves its width, a
+ * timestamp type or a flag that is neither 0 nor 1, an unknown kind, or an entry not named that is not 0; and where the
+ * kind is of records, a count of them below 0, more records than rows, or in a row a span outside the source, a length
+ * that its place does not allow, null with a start that is not 0, an offset delta that leaves 32 bits, a number of
+ * headers below 0, or headers that do not run on or run past their table. */
 uint32_t oddrafisk_measure(uint32_t mode, const int64_t batch[ODDRAFISK_ENTRIES], int64_t codec, const int64_t *records,
                            size_t record_numbers, const int64_t *headers, size_t header_numbers, const uint8_t *source,
                            size_t source_count, int64_t answer[1]);
@@ -187,8 +193,24 @@ uint32_t oddrafisk_write(uint32_t mode, const int64_t batch[ODDRAFISK_ENTRIES], 
                          size_t record_numbers, const int64_t *headers, size_t header_numbers, const uint8_t *source,
                          size_t source_count, uint8_t *output, size_t output_count, int64_t answer[1]);
 
-/* 1 where the bytes, all of them, are one batch just as oddrafisk_write gives it in that mode, else 0. */
+/* 1 where the bytes, all of them, are one batch just as oddrafisk_write gives it in that mode, else 0. A bare marker is
+ * none, in either mode, and in the bare mode no control batch is. */
 uint32_t oddrafisk_is_canonical(uint32_t mode, const uint8_t *bytes, size_t bytes_count);
+
+/* Converts the batch that the bytes begin with, and does not look at what follows it: it is for stored files with bare
+ * markers, batch by batch. A bare marker becomes a keyed one of the same type in the output, 72 bytes for 65; all fixed
+ * fields are kept byte for byte, attributes without a meaning too, but for the length and the checksum, which are those
+ * of the new bytes. Any other batch that is accepted in the keyed mode is copied as it stands. What is given is given
+ * again for itself.
+ *
+ * Returns ODDRAFISK_ACCEPTED, with how many bytes were taken in answer[0] and how many were given in answer[1];
+ * ODDRAFISK_MORE_BYTES, with how many are needed, counted from the first, in answer[0]; 2 to 13 as oddrafisk_check does
+ * in the keyed mode; or last, where the output is shorter than what is to be given, ODDRAFISK_SHORT_OUTPUT. It never
+ * returns ODDRAFISK_BARE_MARKER. What is not named in the answer is 0. No more bytes are given than were taken and 7
+ * more, so an output of 7 bytes more than the batch is always enough. All else in the output is as it was, and every
+ * return but ODDRAFISK_ACCEPTED leaves it untouched. */
+uint32_t oddrafisk_convert(const uint8_t *bytes, size_t bytes_count, uint8_t *output, size_t output_count,
+                           int64_t answer[2]);
 
 /* The time of a record with this delta, in a batch with this timestamp type, first and greatest timestamp: the first
  * and the delta added up, whichever the type. Returns 1 and the time in answer[0]; or 0, and 0 in answer[0], where
@@ -207,8 +229,7 @@ uint32_t oddrafisk_crc32c(const uint8_t *bytes, size_t bytes_count);
  *     if (oddrafisk_version() != ODDRAFISK_VERSION) abort(); */
 uint32_t oddrafisk_version(void);
 
-/* Plain words for a number that the reader or the writer returns. C before 1999 has no inline functions, and not this
- * one. */
+/* Plain words for a number that a function here returns. C before 1999 has no inline functions, and not this one. */
 #if defined __cplusplus || (defined __STDC_VERSION__ && __STDC_VERSION__ >= 199901L)
 static inline const char *oddrafisk_words(uint32_t number)
 {
@@ -228,6 +249,7 @@ static inline const char *oddrafisk_words(uint32_t number)
     case ODDRAFISK_UNKNOWN_CONTROL: return "the control marker is unknown";
     case ODDRAFISK_BYTES_LEFT: return "bytes are left over";
     case ODDRAFISK_NO_ROOM: return "a table has too few rows";
+    case ODDRAFISK_BARE_MARKER: return "bare markers are withdrawn; `oddrafisk convert IN OUT` converts a stored log";
     case ODDRAFISK_CODEC_ASKED: return "a codec is asked for";
     case ODDRAFISK_WRONG_ROW: return "an entry or a row is asked for that no batch has";
     case ODDRAFISK_ASKED_NOT_UTF8: return "the key of a header that is asked for is not UTF-8";

@@ -89,8 +89,8 @@ static int counts_only(const int64_t *answer, int64_t records, int64_t headers, 
     return same_numbers(answer, expected, ODDRAFISK_ENTRIES);
 }
 
-/* Calls oddrafisk_check and oddrafisk_read, which are to answer alike with 1 to 13 and then touch no table. Returns the
- * number where they do. */
+/* Calls oddrafisk_check and oddrafisk_read, which are to refuse alike, or to need more bytes, and then touch no table.
+ * Returns the number where they do. */
 static uint32_t refused(const uint8_t *bytes, size_t count, int64_t bytes_needed)
 {
     tables t;
@@ -174,6 +174,7 @@ static void test_constants(void)
         EXPECT(kinds[i] == (int)i);
     for (size_t i = 0; i < COUNT(modes); i++)
         EXPECT(modes[i] == (int)i);
+    EXPECT(ODDRAFISK_BARE_MARKER == 41);
     EXPECT(ODDRAFISK_ENTRIES == 16);
 }
 
@@ -216,8 +217,8 @@ static void test_words(void)
         {5, "codec is unknown"}, {6, "compressed"}, {7, "count of records"}, {8, "past"}, {9, "varying length"},
         {10, "negative"}, {11, "the key of a header is not UTF-8"}, {12, "control"}, {13, "left"}, {14, "table"},
         {20, "codec is asked for"}, {21, "row"}, {22, "asked for is not UTF-8"}, {23, "longer than 2147483647"},
-        {24, "output"}};
-    static const uint32_t unknown[] = {15, 16, 17, 18, 19, 25, 256, 1000, UINT32_C(1) << 31, UINT32_MAX};
+        {24, "output"}, {41, "`oddrafisk convert IN OUT`"}};
+    static const uint32_t unknown[] = {15, 16, 17, 18, 19, 25, 40, 42, 256, 1000, UINT32_C(1) << 31, UINT32_MAX};
     for (size_t i = 0; i < COUNT(words); i++) {
         EXPECT(strstr(oddrafisk_words(words[i].number), words[i].has) != NULL);
         EXPECT(strcmp(oddrafisk_words(words[i].number), oddrafisk_words(unknown[0])) != 0);
@@ -706,11 +707,11 @@ static void test_codecs_and_outputs(void)
     static const int64_t codecs[] = {1, 4, 8, -1, INT64_MIN, INT64_MAX};
     int64_t batch[ODDRAFISK_ENTRIES];
     memcpy(batch, BATCH, sizeof batch);
-    batch[ODDRAFISK_KIND] = 3;
-    for (size_t i = 0; i < COUNT(codecs); i++) {
-        expect_refused(ODDRAFISK_CODEC_ASKED, BATCH, codecs[i], RECORDS, HEADERS, OUTPUT_BYTES);
-        expect_refused(ODDRAFISK_CODEC_ASKED, batch, codecs[i], RECORDS, HEADERS, OUTPUT_BYTES);
-    }
+    for (size_t i = 0; i < COUNT(codecs); i++)
+        for (int64_t kind = ODDRAFISK_KIND_RECORDS; kind <= 3; kind++) {
+            batch[ODDRAFISK_KIND] = kind;
+            expect_refused(ODDRAFISK_CODEC_ASKED, batch, codecs[i], RECORDS, HEADERS, OUTPUT_BYTES);
+        }
     for (size_t count = 0; count < BATCH_BYTES; count++)
         expect_refused(ODDRAFISK_SHORT_OUTPUT, BATCH, 0, RECORDS, HEADERS, count);
 }
@@ -837,50 +838,81 @@ static void test_too_long(void)
     free(source);
 }
 
-/* The forms of a marker, and the bytes that a batch with it has. */
-enum { BARE_BYTES = 65, KEYED_BYTES = 72 };
+/* The bytes of a batch with a marker, and of one with a bare marker. */
+enum { MARKER_BYTES = 72, BARE_BYTES = 65 };
 
-/* The batch that ends a transaction by this kind, as it is written in the mode; its other fields are 0. Returns how
- * many bytes it has. */
-static size_t put_marker(uint8_t *batch, int64_t kind)
+/* The batch that ends a transaction by this kind, as it is written; its other fields are 0. */
+static void put_marker(uint8_t *batch, int64_t kind)
 {
-    const uint8_t type = (uint8_t)(kind - 1);
-    const uint8_t bare[] = {0, 0, 0, type}, keyed[] = {0x14, 0, 0, 0, 8, 0, 0, 0, type, 1, 0};
-    if (mode == ODDRAFISK_KEYED)
-        return put_batch(batch, 32, 1, keyed, sizeof keyed);
-    return put_batch(batch, 32, 1, bare, sizeof bare);
+    const uint8_t body[] = {0x14, 0, 0, 0, 8, 0, 0, 0, (uint8_t)(kind - 1), 1, 0};
+    EXPECT(put_batch(batch, 32, 1, body, sizeof body) == MARKER_BYTES);
 }
 
-/* A marker looks at no table and at no count of records. */
+/* What is written for a marker in the keyed mode reads back. */
+static void expect_written(const int64_t *batch, const int64_t *wrong)
+{
+    int64_t length[1], answer[ODDRAFISK_ENTRIES];
+    uint8_t output[OUTPUT_BYTES], expected[MARKER_BYTES];
+    tables t;
+    clear_tables(&t);
+    memset(output, UNTOUCHED_BYTE, sizeof output);
+    EXPECT(write_batch(batch, 0, wrong, wrong, output, sizeof output, length) == 0);
+    EXPECT(length[0] == MARKER_BYTES);
+    put_marker(expected, batch[ODDRAFISK_KIND]);
+    EXPECT(memcmp(output, expected, MARKER_BYTES) == 0);
+    EXPECT(untouched_bytes(output + MARKER_BYTES, sizeof output - MARKER_BYTES));
+    EXPECT(oddrafisk_is_canonical(mode, output, MARKER_BYTES) == 1);
+    for (size_t count = 0; count < MARKER_BYTES; count++) {
+        int64_t needed = count < 12 ? 12 : count < 17 ? 17 : MARKER_BYTES;
+        EXPECT(refused(output, count, needed) == ODDRAFISK_MORE_BYTES);
+    }
+    EXPECT(oddrafisk_read(mode, output, sizeof output, t.records, 0, t.headers, 0, answer) == ODDRAFISK_ACCEPTED);
+    EXPECT(answer[ODDRAFISK_KIND] == batch[ODDRAFISK_KIND]);
+    answer[ODDRAFISK_KIND] = 0;
+    EXPECT(counts_only(answer, 0, 0, MARKER_BYTES));
+    EXPECT(untouched_from(&t, 0, 0));
+}
+
+/* A marker looks at no table and at no count of records. In the bare mode none is written, whichever room there is. */
 static void test_markers(void)
 {
-    const size_t marker_bytes = mode == ODDRAFISK_KEYED ? KEYED_BYTES : BARE_BYTES;
     for (int64_t kind = ODDRAFISK_KIND_ABORT; kind <= ODDRAFISK_KIND_COMMIT; kind++) {
-        int64_t batch[ODDRAFISK_ENTRIES] = {0}, length[1], answer[ODDRAFISK_ENTRIES], wrong[COUNT(RECORDS)];
-        uint8_t output[OUTPUT_BYTES], expected[KEYED_BYTES];
-        tables t;
+        int64_t batch[ODDRAFISK_ENTRIES] = {0}, wrong[COUNT(RECORDS)];
         batch[ODDRAFISK_KIND] = kind;
         batch[ODDRAFISK_RECORDS] = -1;
         fill(wrong, COUNT(wrong), -9);
-        clear_tables(&t);
-        memset(output, UNTOUCHED_BYTE, sizeof output);
-        EXPECT(write_batch(batch, 0, wrong, wrong, output, sizeof output, length) == 0);
-        EXPECT(length[0] == (int64_t)marker_bytes);
-        EXPECT(put_marker(expected, kind) == marker_bytes);
-        EXPECT(memcmp(output, expected, marker_bytes) == 0);
-        EXPECT(untouched_bytes(output + marker_bytes, sizeof output - marker_bytes));
-        EXPECT(oddrafisk_is_canonical(mode, output, marker_bytes) == 1);
-        for (size_t count = 0; count < marker_bytes; count++) {
-            int64_t needed = count < 12 ? 12 : count < 17 ? 17 : (int64_t)marker_bytes;
-            EXPECT(refused(output, count, needed) == ODDRAFISK_MORE_BYTES);
+        if (mode == ODDRAFISK_KEYED) {
+            expect_written(batch, wrong);
+            expect_refused(ODDRAFISK_SHORT_OUTPUT, batch, 0, wrong, wrong, MARKER_BYTES - 1);
+            continue;
         }
-        EXPECT(oddrafisk_read(mode, output, sizeof output, t.records, 0, t.headers, 0, answer) == ODDRAFISK_ACCEPTED);
-        EXPECT(answer[ODDRAFISK_KIND] == kind);
-        answer[ODDRAFISK_KIND] = 0;
-        EXPECT(counts_only(answer, 0, 0, (int64_t)marker_bytes));
-        EXPECT(untouched_from(&t, 0, 0));
-        expect_refused(ODDRAFISK_SHORT_OUTPUT, batch, 0, wrong, wrong, marker_bytes - 1);
+        expect_refused(ODDRAFISK_BARE_MARKER, batch, 0, wrong, wrong, OUTPUT_BYTES);
+        expect_refused(ODDRAFISK_BARE_MARKER, batch, 0, wrong, wrong, 0);
     }
+}
+
+/* In the bare mode a marker that is asked for is refused before whatever else is wrong, and in the keyed mode never. */
+static void test_markers_with_wrong_entries(void)
+{
+    static const change changes[] = {
+        {ODDRAFISK_PARTITION_LEADER_EPOCH, INT64_C(1) << 31},
+        {ODDRAFISK_LAST_OFFSET_DELTA, -(INT64_C(1) << 31) - 1},
+        {ODDRAFISK_PRODUCER_EPOCH, 32768},
+        {ODDRAFISK_BASE_SEQUENCE, INT64_MAX},
+        {ODDRAFISK_TIMESTAMP_TYPE, 2},
+        {ODDRAFISK_IS_TRANSACTIONAL, -1},
+        {ODDRAFISK_BYTES + 1, 1},
+        {ODDRAFISK_ENTRIES - 1, -1}};
+    const uint32_t due = mode == ODDRAFISK_KEYED ? (uint32_t)ODDRAFISK_WRONG_ROW : (uint32_t)ODDRAFISK_BARE_MARKER;
+    for (size_t i = 0; i < COUNT(changes); i++)
+        for (int64_t kind = ODDRAFISK_KIND_ABORT; kind <= ODDRAFISK_KIND_COMMIT; kind++) {
+            int64_t batch[ODDRAFISK_ENTRIES];
+            memcpy(batch, BATCH, sizeof batch);
+            batch[ODDRAFISK_KIND] = kind;
+            batch[changes[i].place] = changes[i].number;
+            expect_refused(due, batch, 0, RECORDS, HEADERS, OUTPUT_BYTES);
+            expect_refused(ODDRAFISK_CODEC_ASKED, batch, 1, RECORDS, HEADERS, OUTPUT_BYTES);
+        }
 }
 
 /* What a control batch is answered in a mode: a number, and where that is 0 its kind and whether it is canonical. */
@@ -905,8 +937,16 @@ static const control CONTROLS[] = {
     /* as the writer gives them */
     {REFUSED(12), MARKED(ABORT, 1), 1, 11, {0x14, 0, 0, 0, 8, 0, 0, 0, 0, 1, 0}},
     {REFUSED(12), MARKED(COMMIT, 1), 1, 11, {0x14, 0, 0, 0, 8, 0, 0, 0, 1, 1, 0}},
-    {MARKED(ABORT, 1), REFUSED(8), 1, 4, {0, 0, 0, 0}},
-    {MARKED(COMMIT, 1), REFUSED(8), 1, 4, {0, 0, 0, 1}},
+    /* bare ones, and what is none for a wrong byte, one too many or one too few */
+    {REFUSED(41), REFUSED(41), 1, 4, {0, 0, 0, 0}},
+    {REFUSED(41), REFUSED(41), 1, 4, {0, 0, 0, 1}},
+    {REFUSED(12), REFUSED(8), 1, 4, {0, 1, 0, 0}},
+    {REFUSED(12), REFUSED(10), 1, 4, {1, 0, 0, 1}},
+    {REFUSED(12), REFUSED(8), 1, 4, {0, 0, 0, 2}},
+    {REFUSED(12), REFUSED(8), 1, 4, {0, 0, 1, 0}},
+    {REFUSED(13), REFUSED(8), 1, 5, {0, 0, 0, 0, 0}},
+    {REFUSED(8), REFUSED(8), 1, 3, {0, 0, 0}},
+    {REFUSED(8), REFUSED(8), 1, 1, {0}},
     /* as brokers write them, with a value of six bytes: an abort and a commit */
     {REFUSED(12), MARKED(ABORT, 0), 1, 17, {0x20, 0, 0, 0, 8, 0, 0, 0, 0, 12, 0, 0, 0, 0, 0, 5, 0}},
     {REFUSED(12), MARKED(COMMIT, 0), 1, 17, {0x20, 0, 0, 0, 8, 0, 0, 0, 1, 12, 0, 0, 0, 0, 0, 0, 0}},
@@ -923,8 +963,6 @@ static const control CONTROLS[] = {
     {REFUSED(12), REFUSED(12), 1, 11, {0x14, 0, 0, 0, 8, 1, 0, 0, 1, 1, 0}},
     {REFUSED(12), REFUSED(12), 1, 11, {0x14, 0, 0, 0, 8, 0, 0, 0, 2, 1, 0}},
     {REFUSED(12), REFUSED(12), 1, 11, {0x14, 0, 0, 0, 8, 0, 0, 1, 0, 1, 0}},
-    {REFUSED(12), REFUSED(8), 1, 4, {0, 1, 0, 0}},
-    {REFUSED(12), REFUSED(8), 1, 4, {0, 0, 0, 2}},
     /* a null key, and a byte after the record, or a header's key that is not UTF-8 */
     {REFUSED(12), REFUSED(13), 1, 8, {0x0C, 0, 0, 0, 1, 1, 0, 0}},
     {REFUSED(12), REFUSED(11), 1, 11, {0x14, 0, 0, 0, 1, 1, 2, 2, 0xFF, 0, 0}},
@@ -935,11 +973,11 @@ static const control CONTROLS[] = {
     {REFUSED(12), REFUSED(10), 1, 11, {0x14, 0, 0, 0, 8, 0, 0, 0, 0, 3, 0}},
     /* a byte after a marker */
     {REFUSED(12), REFUSED(13), 1, 12, {0x14, 0, 0, 0, 8, 0, 0, 0, 0, 1, 0, 0}},
-    {REFUSED(13), REFUSED(8), 1, 5, {0, 0, 0, 0, 0}},
     /* nothing, and other counts */
     {REFUSED(8), REFUSED(8), 1, 0, {0}},
     {REFUSED(7), REFUSED(7), -1, 11, {0x14, 0, 0, 0, 8, 0, 0, 0, 0, 1, 0}},
     {REFUSED(7), REFUSED(7), 0, 4, {0, 0, 0, 0}},
+    {REFUSED(7), REFUSED(7), 2, 4, {0, 0, 0, 1}},
     {REFUSED(7), REFUSED(7), 2, 11, {0x14, 0, 0, 0, 8, 0, 0, 0, 1, 1, 0}}};
 
 /* Expects that the control batch is accepted with these entries, with tables of no rows too, and that no row is
@@ -961,7 +999,19 @@ static void expect_marker(const uint8_t *bytes, size_t count, const int64_t *ent
     }
 }
 
-/* The fixed fields are those of KNOWN, of which no two are alike. */
+/* Puts down a control batch, whose fixed fields are those of KNOWN, of which no two are alike. Returns its bytes. */
+static size_t put_control(uint8_t *bytes, const control *c, const known *way)
+{
+    const size_t count = EMPTY_BYTES + c->length;
+    memcpy(bytes, KNOWN, EMPTY_BYTES);
+    put_be(bytes + 8, 4, (uint32_t)count - 12);
+    bytes[22] = way->attributes | 32;
+    put_be(bytes + 57, 4, (uint32_t)c->count);
+    memcpy(bytes + EMPTY_BYTES, c->bytes, c->length);
+    repair(bytes, count);
+    return count;
+}
+
 static void test_controls(void)
 {
     for (size_t i = 0; i < COUNT(CONTROLS); i++) {
@@ -970,14 +1020,8 @@ static void test_controls(void)
         const known *way = &KNOWN_WAYS[i % COUNT(KNOWN_WAYS)];
         uint8_t bytes[EMPTY_BYTES + sizeof c->bytes];
         int64_t entries[ODDRAFISK_ENTRIES];
-        const size_t count = EMPTY_BYTES + c->length;
+        const size_t count = put_control(bytes, c, way);
         const unsigned broken_before = broken;
-        memcpy(bytes, KNOWN, EMPTY_BYTES);
-        put_be(bytes + 8, 4, (uint32_t)count - 12);
-        bytes[22] = way->attributes | 32;
-        put_be(bytes + 57, 4, (uint32_t)c->count);
-        memcpy(bytes + EMPTY_BYTES, c->bytes, c->length);
-        repair(bytes, count);
         memcpy(entries, way->entries, sizeof entries);
         entries[ODDRAFISK_KIND] = due->kind;
         entries[ODDRAFISK_RECORDS] = entries[ODDRAFISK_HEADERS] = 0;
@@ -992,10 +1036,156 @@ static void test_controls(void)
     }
 }
 
-/* The first keyed marker with all fields 0, byte by byte: its checksum was worked out apart from the library. */
+/* Base 5, epoch 3, attributes 80 70, both times 1000, producer 9 with epoch 1, sequence -1, and a commit in the bare
+ * form; then what it is converted to. Both checksums were worked out apart from the library. */
+static const uint8_t WORKED[BARE_BYTES] = {
+    0x00, 0x00, 0x00, 0x00, 0x00, 0x00, 0x00, 0x05, 0x00, 0x00, 0x00, 0x35, 0x00, 0x00, 0x00, 0x03, 0x02, 0x4D, 0x84,
+    0x95, 0xB3, 0x80, 0x70, 0x00, 0x00, 0x00, 0x00, 0x00, 0x00, 0x00, 0x00, 0x00, 0x00, 0x03, 0xE8, 0x00, 0x00, 0x00,
+    0x00, 0x00, 0x00, 0x03, 0xE8, 0x00, 0x00, 0x00, 0x00, 0x00, 0x00, 0x00, 0x09, 0x00, 0x01, 0xFF, 0xFF, 0xFF, 0xFF,
+    0x00, 0x00, 0x00, 0x01, 0x00, 0x00, 0x00, 0x01};
+
+static const uint8_t CONVERTED[MARKER_BYTES] = {
+    0x00, 0x00, 0x00, 0x00, 0x00, 0x00, 0x00, 0x05, 0x00, 0x00, 0x00, 0x3C, 0x00, 0x00, 0x00, 0x03, 0x02, 0x19, 0x8B,
+    0x7A, 0x08, 0x80, 0x70, 0x00, 0x00, 0x00, 0x00, 0x00, 0x00, 0x00, 0x00, 0x00, 0x00, 0x03, 0xE8, 0x00, 0x00, 0x00,
+    0x00, 0x00, 0x00, 0x03, 0xE8, 0x00, 0x00, 0x00, 0x00, 0x00, 0x00, 0x00, 0x09, 0x00, 0x01, 0xFF, 0xFF, 0xFF, 0xFF,
+    0x00, 0x00, 0x00, 0x01, 0x14, 0x00, 0x00, 0x00, 0x08, 0x00, 0x00, 0x00, 0x01, 0x01, 0x00};
+
+/* An output that has room for every batch here with 7 bytes more. */
+enum { CONVERSION_ROOM = KNOWN_BYTES + 7 };
+
+/* Expects of the conversion this number, with this answer and these bytes given, in an output of so many bytes. */
+static void expect_conversion(uint32_t due, const uint8_t *bytes, size_t count, size_t room, int64_t taken,
+                              const uint8_t *given, size_t given_count)
+{
+    uint8_t output[CONVERSION_ROOM];
+    int64_t answer[2] = {UNTOUCHED, UNTOUCHED};
+    memset(output, UNTOUCHED_BYTE, sizeof output);
+    uint32_t number = oddrafisk_convert(bytes, count, output, room, answer);
+    EXPECT(number == due);
+    if (number != due)
+        printf("conversion: %" PRIu32 ", not %" PRIu32 "\n", number, due);
+    EXPECT(answer[0] == taken && answer[1] == (int64_t)given_count);
+    EXPECT(memcmp(output, given, given_count) == 0);
+    EXPECT(untouched_bytes(output + given_count, sizeof output - given_count));
+}
+
+/* Expects that the first `taken` of the bytes are converted to what is given, in every output that has room for it, and
+ * in no other. */
+static void expect_converted(const uint8_t *bytes, size_t count, size_t taken, const uint8_t *given, size_t given_count)
+{
+    for (size_t room = 0; room <= taken + 7; room++)
+        if (room < given_count)
+            expect_conversion(ODDRAFISK_SHORT_OUTPUT, bytes, count, room, 0, given, 0);
+        else
+            expect_conversion(ODDRAFISK_ACCEPTED, bytes, count, room, (int64_t)taken, given, given_count);
+}
+
+/* Expects this number of the conversion, with how many bytes are needed where they are, in outputs with and without
+ * room. */
+static void expect_unconverted(uint32_t due, const uint8_t *bytes, size_t count, int64_t needed)
+{
+    expect_conversion(due, bytes, count, 0, needed, bytes, 0);
+    expect_conversion(due, bytes, count, CONVERSION_ROOM, needed, bytes, 0);
+}
+
+/* The worked marker, alone and with bytes after it; what it becomes is read, and stays as it is. */
+static void test_converted_marker(void)
+{
+    uint8_t log[BARE_BYTES + ONE_BYTES];
+    int64_t answer[ODDRAFISK_ENTRIES];
+    memcpy(log, WORKED, BARE_BYTES);
+    memcpy(log + BARE_BYTES, ONE, ONE_BYTES);
+    EXPECT(refused(WORKED, BARE_BYTES, 0) == ODDRAFISK_BARE_MARKER);
+    EXPECT(refused(log, sizeof log, 0) == ODDRAFISK_BARE_MARKER);
+    for (size_t count = BARE_BYTES; count <= sizeof log; count++)
+        expect_converted(log, count, BARE_BYTES, CONVERTED, MARKER_BYTES);
+    expect_converted(CONVERTED, MARKER_BYTES, MARKER_BYTES, CONVERTED, MARKER_BYTES);
+    EXPECT(oddrafisk_check(ODDRAFISK_KEYED, CONVERTED, MARKER_BYTES, answer) == ODDRAFISK_ACCEPTED);
+    EXPECT(answer[ODDRAFISK_KIND] == ODDRAFISK_KIND_COMMIT && answer[ODDRAFISK_BASE_OFFSET] == 5);
+    EXPECT(oddrafisk_is_canonical(ODDRAFISK_KEYED, CONVERTED, MARKER_BYTES) == 0);
+    for (size_t count = 0; count < BARE_BYTES; count++) {
+        int64_t needed = count < 12 ? 12 : count < 17 ? 17 : BARE_BYTES;
+        expect_unconverted(ODDRAFISK_MORE_BYTES, WORKED, count, needed);
+    }
+}
+
+/* Every bit of the attributes that says neither the codec nor that it is a marker is kept. */
+static void test_converted_attributes(void)
+{
+    const uint32_t settled = 0x27;
+    for (uint32_t bit = 1; bit <= 0x8000; bit <<= 1)
+        for (uint8_t type = 0; type < 2; type++) {
+            const uint8_t bare[] = {0, 0, 0, type}, keyed[] = {0x14, 0, 0, 0, 8, 0, 0, 0, type, 1, 0};
+            uint8_t bytes[BARE_BYTES], due[MARKER_BYTES];
+            if (bit & settled)
+                continue;
+            put_batch(bytes, 32 | bit, 1, bare, sizeof bare);
+            put_batch(due, 32 | bit, 1, keyed, sizeof keyed);
+            EXPECT(refused(bytes, sizeof bytes, 0) == ODDRAFISK_BARE_MARKER);
+            expect_converted(bytes, sizeof bytes, sizeof bytes, due, sizeof due);
+        }
+}
+
+/* What the keyed mode accepts is copied, and what follows it is not. */
+static void test_converted_batches(void)
+{
+    expect_converted(SAMPLE, sizeof SAMPLE, EMPTY_BYTES, SAMPLE, EMPTY_BYTES);
+    expect_converted(ONE, ONE_BYTES, ONE_BYTES, ONE, ONE_BYTES);
+    expect_converted(ONE, ONE_BYTES + 3, ONE_BYTES, ONE, ONE_BYTES);
+    expect_converted(KNOWN, KNOWN_BYTES, KNOWN_BYTES, KNOWN, KNOWN_BYTES);
+    for (size_t count = 0; count < ONE_BYTES; count++) {
+        int64_t needed = count < 12 ? 12 : count < 17 ? 17 : ONE_BYTES;
+        expect_unconverted(ODDRAFISK_MORE_BYTES, ONE, count, needed);
+    }
+}
+
+/* Control batches have the keyed mode's numbers, and never the old rules'; bare markers keep every field. */
+static void test_converted_controls(void)
+{
+    for (size_t i = 0; i < COUNT(CONTROLS); i++) {
+        const control *c = &CONTROLS[i];
+        uint8_t bytes[EMPTY_BYTES + sizeof c->bytes], due[EMPTY_BYTES + sizeof c->bytes];
+        const known *way = &KNOWN_WAYS[i % COUNT(KNOWN_WAYS)];
+        const size_t count = put_control(bytes, c, way);
+        const unsigned broken_before = broken;
+        if (c->keyed.number == ODDRAFISK_BARE_MARKER) {
+            const control keyed = {c->bare, c->keyed, 1, 11, {0x14, 0, 0, 0, 8, 0, 0, 0, c->bytes[3], 1, 0}};
+            EXPECT(put_control(due, &keyed, way) == MARKER_BYTES);
+            expect_converted(bytes, count, count, due, MARKER_BYTES);
+        } else if (c->keyed.number == ODDRAFISK_ACCEPTED) {
+            expect_converted(bytes, count, count, bytes, count);
+        } else {
+            expect_unconverted(c->keyed.number, bytes, count, 0);
+        }
+        if (broken > broken_before)
+            printf("control batch %zu\n", i);
+    }
+}
+
+/* A bare marker with another fault has that fault's number, in reading and in the conversion. */
+static void test_bare_faults(void)
+{
+    static const edit edits[] = {
+        {ODDRAFISK_LENGTH_TOO_SMALL, 11, 8, 0}, {ODDRAFISK_LENGTH_TOO_SMALL, 8, 0xFF, 0},
+        {ODDRAFISK_UNKNOWN_MAGIC, 16, 1, 0},    {ODDRAFISK_CHECKSUM_DIFFERS, 20, 0, 0},
+        {ODDRAFISK_CHECKSUM_DIFFERS, 64, 0, 0}, {ODDRAFISK_UNKNOWN_CODEC, 22, 0x75, 1},
+        {ODDRAFISK_COMPRESSED, 22, 0x71, 1},    {ODDRAFISK_WRONG_COUNT, 60, 2, 1},
+        {ODDRAFISK_WRONG_COUNT, 57, 0x80, 1},   {ODDRAFISK_PAST_END, 22, 0x50, 1}};
+    for (size_t i = 0; i < COUNT(edits); i++) {
+        uint8_t bytes[BARE_BYTES];
+        memcpy(bytes, WORKED, sizeof bytes);
+        bytes[edits[i].place] = edits[i].byte;
+        if (edits[i].repaired)
+            repair(bytes, sizeof bytes);
+        EXPECT(refused(bytes, sizeof bytes, 0) == edits[i].number);
+        expect_unconverted(edits[i].number, bytes, sizeof bytes, 0);
+    }
+}
+
+/* An abort with all fields 0, byte by byte: its checksum was worked out apart from the library. */
 static void test_keyed_bytes(void)
 {
-    static const uint8_t bytes[KEYED_BYTES] = {
+    static const uint8_t bytes[MARKER_BYTES] = {
         0x00, 0x00, 0x00, 0x00, 0x00, 0x00, 0x00, 0x00, 0x00, 0x00, 0x00, 0x3C, 0x00, 0x00, 0x00, 0x00, 0x02, 0xEC,
         0xE5, 0x1F, 0xAE, 0x00, 0x20, 0x00, 0x00, 0x00, 0x00, 0x00, 0x00, 0x00, 0x00, 0x00, 0x00, 0x00, 0x00, 0x00,
         0x00, 0x00, 0x00, 0x00, 0x00, 0x00, 0x00, 0x00, 0x00, 0x00, 0x00, 0x00, 0x00, 0x00, 0x00, 0x00, 0x00, 0x00,
@@ -1003,11 +1193,15 @@ static void test_keyed_bytes(void)
     int64_t batch[ODDRAFISK_ENTRIES] = {0}, length[1];
     uint8_t output[OUTPUT_BYTES];
     batch[ODDRAFISK_KIND] = ODDRAFISK_KIND_ABORT;
-    EXPECT(write_batch(batch, 0, RECORDS, HEADERS, output, sizeof output, length) == 0);
-    if (mode == ODDRAFISK_KEYED)
-        EXPECT(length[0] == KEYED_BYTES && memcmp(output, bytes, KEYED_BYTES) == 0);
-    else
-        EXPECT(length[0] == BARE_BYTES && refused(bytes, KEYED_BYTES, 0) == ODDRAFISK_UNKNOWN_CONTROL);
+    memset(output, UNTOUCHED_BYTE, sizeof output);
+    uint32_t number = write_batch(batch, 0, RECORDS, HEADERS, output, sizeof output, length);
+    if (mode == ODDRAFISK_KEYED) {
+        EXPECT(number == ODDRAFISK_ACCEPTED && length[0] == MARKER_BYTES);
+        EXPECT(memcmp(output, bytes, MARKER_BYTES) == 0);
+    } else {
+        EXPECT(number == ODDRAFISK_BARE_MARKER);
+        EXPECT(refused(bytes, MARKER_BYTES, 0) == ODDRAFISK_UNKNOWN_CONTROL);
+    }
 }
 
 /* Batches that are accepted and that the writer would not give: count -1, a high attribute bit, a record attribute and
@@ -1098,6 +1292,10 @@ static void test_nothing_lent(void)
     EXPECT(oddrafisk_write(mode, batch, 0, &number, 0, &number, 0, SOURCE, 0, &byte, 0, length)
            == ODDRAFISK_SHORT_OUTPUT);
     EXPECT(length[0] == 0);
+    EXPECT(oddrafisk_convert(SOURCE, 0, &byte, 0, answer) == ODDRAFISK_MORE_BYTES);
+    EXPECT(answer[0] == 12 && answer[1] == 0);
+    EXPECT(oddrafisk_convert(SAMPLE, EMPTY_BYTES, &byte, 0, answer) == ODDRAFISK_SHORT_OUTPUT);
+    EXPECT(answer[0] == 0 && answer[1] == 0);
     EXPECT(number == UNTOUCHED && byte == UNTOUCHED_BYTE);
 }
 
@@ -1112,8 +1310,9 @@ static const test TESTS[] = {
     TEST(constants), TEST(rows), TEST(version), TEST(words), TEST(sample_read), TEST(sample_written), TEST(known_read),
     TEST(known_written), TEST(truncated), TEST(first_17), TEST(going_on), TEST(damaged), TEST(edited), TEST(bodies),
     TEST(reads_back), TEST(no_room), TEST(rows_asked_for), TEST(codecs_and_outputs), TEST(wrong_entries),
-    TEST(wrong_records), TEST(wrong_headers), TEST(key_not_utf8), TEST(too_long), TEST(markers), TEST(controls),
-    TEST(keyed_bytes), TEST(canonical),
+    TEST(wrong_records), TEST(wrong_headers), TEST(key_not_utf8), TEST(too_long), TEST(markers),
+    TEST(markers_with_wrong_entries), TEST(controls), TEST(converted_marker), TEST(converted_attributes),
+    TEST(converted_batches), TEST(converted_controls), TEST(bare_faults), TEST(keyed_bytes), TEST(canonical),
     TEST(record_time), TEST(crc32c), TEST(nothing_lent)};
 
 /* A test passes where it makes checks in each mode and all of them hold. */

@@ -2,19 +2,17 @@
 """Prints the records of a log, a line each: offset, key and value. It calls the shared object that `bindings/install
 PREFIX` makes, by ctypes alone:
 
-    LD_LIBRARY_PATH=PREFIX/lib python3 read.py [bare|keyed] LOG
-
-A log of a broker is to be read as `keyed`. One without markers may be read as either; `bare` is the default."""
+    LD_LIBRARY_PATH=PREFIX/lib python3 read.py LOG"""
 import ctypes
 import sys
 
-library, number, size, pointer = ctypes.CDLL("liboddrafisk.so.0.3"), ctypes.c_uint32, ctypes.c_size_t, ctypes.c_void_p
+library, number, size, pointer = ctypes.CDLL("liboddrafisk.so.0.4"), ctypes.c_uint32, ctypes.c_size_t, ctypes.c_void_p
 library.oddrafisk_check.argtypes = number, pointer, size, pointer
 library.oddrafisk_read.argtypes = number, pointer, size, pointer, size, pointer, size, pointer
-assert library.oddrafisk_version() == 3000, "the library has another version"
+assert library.oddrafisk_version() == 4000, "the library has another version"
 
-# The modes, the places of entries and those in rows, as oddrafisk.h names them.
-BARE, KEYED = 0, 1
+# The mode, the places of entries and those in rows, as oddrafisk.h names them.
+KEYED = 1
 ENTRIES, BASE_OFFSET, RECORDS, HEADERS, BYTES = 16, 0, 11, 12, 13
 RECORD_ROW, HEADER_ROW, OFFSET_DELTA, KEY_START, VALUE_START = 8, 4, 1, 2, 4
 
@@ -28,11 +26,11 @@ def table(numbers):
     return (ctypes.c_int64 * (numbers + 1))()
 
 
-def records_of(log, mode=BARE):
+def records_of(log):
     """The offset, the key and the value of each record of a log."""
     place, answer = 0, table(ENTRIES)
     while place < len(log):
-        lent = mode, ctypes.cast(log, pointer).value + place, len(log) - place
+        lent = KEYED, ctypes.cast(log, pointer).value + place, len(log) - place
         refused = library.oddrafisk_check(*lent, answer)
         records, headers = table(RECORD_ROW * answer[RECORDS]), table(HEADER_ROW * answer[HEADERS])
         refused = refused or library.oddrafisk_read(*lent, records, len(records), headers, len(headers), answer)
@@ -53,13 +51,12 @@ def shown(span):
     return '"%s"' % "".join(plain)
 
 
-def main(name, mode):
+def main(name):
     try:
-        for offset, key, value in records_of(open(name, "rb").read(), mode):
+        for offset, key, value in records_of(open(name, "rb").read()):
             print(offset, shown(key), shown(value))
     except Stopped as why:
         sys.exit("%s: %s" % (name, why))
 
 
-word, log_name = ["bare", *sys.argv[1:]][-2:]
-main(log_name, {"bare": BARE, "keyed": KEYED}[word])
+main(sys.argv[1])

@@ -5,7 +5,7 @@ use std::ffi::{OsStr, OsString};
 use oddrafisk::ControlMode;
 
 use crate::name::{shown, Name};
-use crate::verbs::{Verb, VERBS};
+use crate::verbs::{Operands, Verb, VERBS};
 
 /// What the command line asks for.
 pub enum Request {
@@ -18,7 +18,7 @@ pub enum Request {
 pub struct Work {
     pub verb: &'static Verb,
     pub files: Vec<Name>,
-    /// Which form the markers have.
+    /// The mode in which logs are read.
     pub mode: ControlMode,
     flags: Vec<&'static str>,
 }
@@ -29,22 +29,22 @@ impl Work {
     }
 }
 
-const FILES: &str = "\
-FILE - is standard input, and -- ends the options. Files may be of any size.
-";
+const INPUT: &str = "is standard input, and -- ends the options. Files may be of any size.";
 
-/// The option that every verb has. Its value is the word after it, or what stands after `=`.
+/// The option that every verb has which reads in a mode. Its value is the word after it, or what
+/// stands after `=`.
 const CONTROL: &str = "--control";
 
-/// Its values; the first is the default.
+/// Its values.
 const MODES: [(&str, ControlMode); 2] =
-    [("bare", ControlMode::Bare), ("keyed", ControlMode::Keyed)];
+    [("keyed", ControlMode::Keyed), ("bare", ControlMode::Bare)];
 
 const MARKERS: &str = "\
-Markers, which end transactions, have two forms, and MODE says which is read. Brokers write a record
-whose key begins with the marker: read their logs with --control keyed. The default, bare, is the
-form of the Rust crate rskafka, the marker's four bytes alone. A marker of the other form is
-refused. Batches of records are the same in both. Of several --control the last counts.
+Markers, which end transactions, are keyed, as brokers write them: a record whose key begins with
+the marker. The bare form, the marker's four bytes alone, is withdrawn. It is refused by number 41
+in either MODE, and `oddrafisk convert IN OUT` makes keyed markers of a stored log. With --control
+bare no marker is read at all. Batches of records are the same in both. Of several --control the
+last counts.
 ";
 
 const STATUSES: &str = "\
@@ -52,7 +52,7 @@ exit status, with several files the greatest:
    0  all right
    1  a batch is refused
    2  the log is torn: it ends inside a batch
-   3  a file cannot be read, or standard output cannot be written
+   3  a file cannot be read or written, or standard output cannot be written
   64  the command line is wrong
 ";
 
@@ -61,7 +61,7 @@ examples:
   oddrafisk verify *.log
   oddrafisk list 00000000000000000000.log
   oddrafisk dump --json 00000000000000000000.log | jq .value
-  oddrafisk list --control keyed 00000000000000000000.log
+  oddrafisk convert old.log new.log
 ";
 
 const VERSION: &str = concat!("oddrafisk ", env!("CARGO_PKG_VERSION"), "\n");
@@ -96,25 +96,20 @@ fn parse_work(
             options_ended = true;
         } else if let Some(page) = page(&argument, || verb_help(verb)) {
             return Ok(page);
-        } else if argument == CONTROL {
+        } else if argument == CONTROL && has_modes(verb) {
             mode = mode_of(verb, arguments.next().as_deref())?;
-        } else if let Some(word) = after_control(&argument) {
+        } else if let Some(word) = after_control(&argument).filter(|_| has_modes(verb)) {
             mode = mode_of(verb, Some(word))?;
         } else {
             flags.push(flag(verb, &argument)?);
         }
     }
-    if files.is_empty() {
-        return Err(format!(
-            "{0} needs a FILE, and - is standard input; see oddrafisk {0} --help",
-            verb.name
-        ));
-    }
-    if 1 < files.iter().filter(|file| file.is_standard_input()).count() {
-        return Err(format!(
-            "{0} can read standard input once, and - is there twice; see oddrafisk {0} --help",
-            verb.name
-        ));
+    let wrong = match verb.operands {
+        Operands::Files => wrong_files(&files),
+        Operands::InAndOut => wrong_in_and_out(&files),
+    };
+    if let Some(wrong) = wrong {
+        return Err(format!("{0} {wrong}; see oddrafisk {0} --help", verb.name));
     }
     Ok(Request::Work(Work {
         verb,
@@ -122,6 +117,29 @@ fn parse_work(
         mode,
         flags,
     }))
+}
+
+/// What is wrong with the files of a verb that reads them.
+fn wrong_files(files: &[Name]) -> Option<&'static str> {
+    match files.iter().filter(|file| file.is_standard_input()).count() {
+        _ if files.is_empty() => Some("needs a FILE, and - is standard input"),
+        0 | 1 => None,
+        _ => Some("can read standard input once, and - is there twice"),
+    }
+}
+
+/// What is wrong with the files of a verb that makes one of another. What it makes appears at once,
+/// and a stream cannot.
+fn wrong_in_and_out(files: &[Name]) -> Option<&'static str> {
+    match files {
+        [_, out] if out.is_standard_input() => Some("needs a file for OUT, and - is none"),
+        [_, _] => None,
+        _ => Some("needs IN and OUT, and no other file"),
+    }
+}
+
+fn has_modes(verb: &Verb) -> bool {
+    verb.operands == Operands::Files
 }
 
 /// What stands after `--control=`.
@@ -137,7 +155,7 @@ fn mode_of(verb: &Verb, word: Option<&OsStr>) -> Result<ControlMode, String> {
     known.map(|(_, mode)| mode).ok_or_else(|| {
         let found = word.map_or(String::new(), |word| format!(", and not {}", shown(word)));
         format!(
-            "{0} needs bare or keyed after {CONTROL}{found}; see oddrafisk {0} --help",
+            "{0} needs keyed or bare after {CONTROL}{found}; see oddrafisk {0} --help",
             verb.name
         )
     })
@@ -172,26 +190,34 @@ fn program_help() -> String {
         verbs += &format!("  {:8} {}\n", verb.name, verb.about);
     }
     format!(
-        "Lists, dumps and verifies logs of Kafka's version 2 record batches, uncompressed.\n\n\
+        "Lists, dumps, verifies and converts logs of Kafka's version 2 record batches, \
+         uncompressed.\n\n\
          usage: oddrafisk VERB [OPTION].. FILE..\n\n\
          verbs:\n{verbs}\n\
          options:\n  -h, --help     show this page, or after a verb its own\n  \
          -V, --version  show the version\n\n\
-         {FILES}\n{STATUSES}\n{EXAMPLES}"
+         FILE - {INPUT}\n\n{STATUSES}\n{EXAMPLES}"
     )
 }
 
 fn verb_help(verb: &Verb) -> String {
-    let mut options =
-        format!("  {CONTROL} MODE read markers of this form: bare, the default, or keyed\n");
+    let (mut options, mut markers, mut file) = (String::new(), String::new(), "IN");
+    if has_modes(verb) {
+        options += &format!("  {CONTROL} MODE read in this mode: keyed, the default, or bare\n");
+        markers += &format!("{MARKERS}\n");
+        file = "FILE";
+    }
     for option in verb.options {
         options += &format!("  {:14} {}\n", option.name, option.about);
     }
     format!(
         "oddrafisk {0}: {1}\n\n\
-         usage: oddrafisk {0} [OPTION].. FILE..\n\n\
+         usage: oddrafisk {0} [OPTION].. {2}\n\n\
          options:\n{options}  -h, --help     show this page\n  -V, --version  show the version\n\n\
-         {FILES}\n{MARKERS}\n{2}\n{STATUSES}",
-        verb.name, verb.about, verb.help
+         {file} - {INPUT}\n\n{markers}{3}\n{STATUSES}",
+        verb.name,
+        verb.about,
+        verb.operands.usage(),
+        verb.help
     )
 }

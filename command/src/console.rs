@@ -19,8 +19,8 @@ pub enum Status {
     Refused = 1,
     /// The log ends inside a batch.
     Torn = 2,
-    /// A file cannot be read, or standard output cannot be written.
-    Unreadable = 3,
+    /// A file cannot be read or written, or standard output cannot be written.
+    Unusable = 3,
     /// The command line is wrong.
     WrongLine = 64,
 }
@@ -82,7 +82,7 @@ impl Console {
         match ended.and_then(|()| self.output.flush()) {
             Err(error) if error.kind() != ErrorKind::BrokenPipe => {
                 complain(format_args!("standard output: {error}"));
-                self.worsen(Status::Unreadable);
+                self.worsen(Status::Unusable);
             }
             _ => {}
         }

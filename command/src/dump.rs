@@ -9,7 +9,7 @@ use crate::console::Console;
 use crate::log;
 use crate::name::Name;
 use crate::quoted;
-use crate::verbs::{Flag, Verb};
+use crate::verbs::{Flag, Operands, Verb};
 
 const JSON: &str = "--json";
 const FIELDS: &str = "--fields";
@@ -39,9 +39,10 @@ Where a log stops, all records before that place have been written.
 
 examples:
   oddrafisk dump 00000000000000000000.log
-  oddrafisk dump --control keyed --fields 00000000000000000000.log | grep '^#'
+  oddrafisk dump --fields 00000000000000000000.log | grep '^#'
   oddrafisk dump --json *.log | jq -r 'select(.key == \"session-7\") | .value'
 ",
+    operands: Operands::Files,
     options: &[
         Flag {
             name: JSON,

@@ -5,7 +5,7 @@ use std::io::{self, Write};
 use crate::arguments::Work;
 use crate::console::Console;
 use crate::log::{self, Log, Trouble};
-use crate::verbs::Verb;
+use crate::verbs::{Operands, Verb};
 
 pub const VERB: Verb = Verb {
     name: "list",
@@ -21,9 +21,10 @@ two of them.
 
 examples:
   oddrafisk list 00000000000000000000.log
-  oddrafisk list --control keyed *.log | grep stop
+  oddrafisk list *.log | grep stop
   xz -dc old.log.xz | oddrafisk list -
 ",
+    operands: Operands::Files,
     options: &[],
     streams: true,
     run,

@@ -1,6 +1,6 @@
 //! Going through the batches of a file, of which no more than one is in memory.
 
-use std::fs::{self, File};
+use std::fs::{self, File, Metadata};
 use std::io::{self, Read, Seek};
 use std::os::fd::AsFd;
 use std::os::unix::fs::{FileTypeExt, MetadataExt};
@@ -22,7 +22,7 @@ pub enum Trouble {
     Stopped(ReadError),
     /// The file cannot be read.
     Unreadable(io::Error),
-    /// Standard output cannot be written.
+    /// What the verb writes to cannot be written.
     Unwritable(io::Error),
 }
 
@@ -47,22 +47,32 @@ pub fn each(
     mut visit: impl FnMut(&mut Log, &mut Console) -> Result<(), Trouble>,
 ) -> io::Result<()> {
     for name in &work.files {
-        match Log::open(name, work) {
-            Ok(mut log) => {
-                let ended = visit(&mut log, console);
-                settle(ended, &log, console)?;
-            }
-            Err(error) => console.fault(Status::Unreadable, name, error)?,
-        }
+        one(name, work, console, &mut visit)?;
     }
     Ok(())
+}
+
+/// Goes through one file.
+pub fn one(
+    name: &Name,
+    work: &Work,
+    console: &mut Console,
+    visit: impl FnOnce(&mut Log, &mut Console) -> Result<(), Trouble>,
+) -> io::Result<()> {
+    match Log::open(name, work) {
+        Ok(mut log) => {
+            let ended = visit(&mut log, console);
+            settle(ended, &log, console)
+        }
+        Err(error) => console.fault(Status::Unusable, name, error),
+    }
 }
 
 fn settle(ended: Result<(), Trouble>, log: &Log, console: &mut Console) -> io::Result<()> {
     match ended {
         Ok(()) => Ok(()),
         Err(Trouble::Unwritable(error)) => Err(error),
-        Err(Trouble::Unreadable(error)) => console.fault(Status::Unreadable, log.name, error),
+        Err(Trouble::Unreadable(error)) => console.fault(Status::Unusable, log.name, error),
         Err(Trouble::Stopped(reason)) => {
             let (place, words, number) = (log.place(), log.words(reason), reason.number());
             let words = format_args!("stopped at {place}: {words} (number {number})");
@@ -89,7 +99,7 @@ pub fn name_of(kind: Kind) -> &'static str {
 /// A file that is gone through, batch after batch.
 pub struct Log<'n> {
     pub name: &'n Name,
-    /// Which form its markers are to have.
+    /// The mode in which it is read.
     pub mode: ControlMode,
     window: Window<Source>,
 }
@@ -178,18 +188,20 @@ impl<'n> Log<'n> {
         }
     }
 
-    /// Said where the other mode reads the batch that is refused: then it is a marker of that form.
+    /// Said in the bare mode of a marker that the keyed one reads.
     fn hint(&self) -> &'static str {
-        let (other, hint) = match self.mode {
-            ControlMode::Bare => (ControlMode::Keyed, "; --control keyed reads it"),
-            ControlMode::Keyed => (ControlMode::Bare, "; --control bare reads it"),
-        };
-        let read = |batch| oddrafisk::check_in(other, batch).is_ok();
-        if self.batch().is_some_and(read) {
-            hint
+        let keyed = |batch| oddrafisk::check_in(ControlMode::Keyed, batch).is_ok();
+        if self.mode == ControlMode::Bare && self.batch().is_some_and(keyed) {
+            "; --control keyed reads it"
         } else {
             ""
         }
+    }
+
+    /// Whose file it is and who may use it, where it is a file and no stream.
+    pub fn metadata(&self) -> io::Result<Option<Metadata>> {
+        let metadata = self.window.source().file.metadata()?;
+        Ok(metadata.is_file().then_some(metadata))
     }
 }
 

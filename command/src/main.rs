@@ -1,4 +1,4 @@
-//! `oddrafisk`: lists, dumps and verifies logs of Kafka's version 2 record batches.
+//! `oddrafisk`: lists, dumps, verifies and converts logs of Kafka's version 2 record batches.
 //!
 //! A verb is a file of its own and a row of [`verbs::VERBS`]. What all of them share is here too:
 //! the command line (`arguments`), going through a file of any size (`log` over `window`), and what
@@ -8,6 +8,7 @@
 
 mod arguments;
 mod console;
+mod convert;
 mod dump;
 mod hex;
 mod list;
@@ -41,7 +42,7 @@ fn main() -> ExitCode {
         }
         Err(error) => {
             complain(format_args!("standard output: {error}"));
-            Status::Unreadable.into()
+            Status::Unusable.into()
         }
     }
 }

@@ -10,7 +10,7 @@ use crate::arguments::Work;
 use crate::console::{Console, Status};
 use crate::hex::Excerpt;
 use crate::log::{self, Log, Trouble};
-use crate::verbs::Verb;
+use crate::verbs::{Operands, Verb};
 
 pub const VERB: Verb = Verb {
     name: "verify",
@@ -28,8 +28,9 @@ to batch is not looked at: `oddrafisk list` shows them.
 examples:
   oddrafisk verify *.log
   oddrafisk verify -- -odd-name.log
-  ssh broker cat 00000000000000000000.log | oddrafisk verify --control keyed -
+  ssh broker cat 00000000000000000000.log | oddrafisk verify -
 ",
+    operands: Operands::Files,
     options: &[],
     streams: false,
     run,
@@ -38,9 +39,11 @@ examples:
 /// The fixed part of a batch, which ends with the count of records.
 const FIXED: usize = 61;
 const CHECKSUM: Range<usize> = 17..21;
-/// So many bytes from the place on are shown: the fixed part, the rest of its last line and a line
-/// more.
-const SHOWN: usize = FIXED + 31;
+/// A bare marker, after the fixed part.
+const BARE_MARKER: Range<u64> = 61..65;
+/// So many bytes from the place on are shown: up to a bare marker's end, the rest of that line and
+/// a line more.
+const SHOWN: usize = FIXED + 4 + 31;
 /// The attributes' second byte has the bit that says whether a batch is a marker.
 const ATTRIBUTES_LOW: usize = 22;
 const CONTROL: u8 = 0x20;
@@ -151,6 +154,7 @@ fn at_fault(reason: ReadError) -> Option<Range<u64>> {
         Refusal::ChecksumDiffers => Some(17..21),
         Refusal::UnknownCodec | Refusal::Compressed => Some(21..23),
         Refusal::WrongCount => Some(57..61),
+        Refusal::BareMarker => Some(BARE_MARKER),
         _ => None,
     }
 }

@@ -1,11 +1,11 @@
 /* Prints every answer of the library on the inputs of a file, so that two builds of it can be held to each other.
  *
- *     driver FILE              the answers in bare mode
- *     driver --keyed FILE      the answers in keyed mode
+ *     driver FILE              the answers in keyed mode
+ *     driver --bare FILE       the answers in bare mode
  *     driver --own-order FILE  this processor's byte order, and each log's base offset taken by it
  *
  * An input is a line:
- *     log HEX                  bytes to read, batch by batch, and to write again
+ *     log HEX                  bytes to read, batch by batch, to convert and to write again
  *     write CODEC ENTRIES|RECORD ROWS|HEADER ROWS|HEX
  *                              a batch to write, with its sixteen entries and its source, and to read again
  *     time TYPE FIRST MAX DELTA
@@ -24,7 +24,9 @@
 static const int64_t MARK = -6148914691236517206;
 enum { MARKED_BYTE = 0xAA, GUARD = 8 };
 /* The mode in which the library is asked. */
-static uint32_t mode = ODDRAFISK_BARE;
+static uint32_t mode = ODDRAFISK_KEYED;
+/* What is converted is at most so many bytes longer than what is taken. */
+enum { MOST_LONGER = 7 };
 /* A batch that is longer is measured, and asked for in an output that is too short. */
 enum { MOST_WRITTEN = 1 << 24 };
 
@@ -210,6 +212,28 @@ static struct bytes show_written(const int64_t *batch, int64_t codec, struct num
     return written(batch, codec, records, headers, source, room);
 }
 
+/* ---- converting */
+
+/* Converts what the bytes begin with, into an output of so many bytes: how many are given. */
+static size_t converted(struct bytes log, size_t room) {
+    struct bytes output = marked_bytes(room);
+    int64_t answer[2] = {MARK, MARK};
+    uint64_t result = oddrafisk_convert(log.at, log.count, output.at, output.count, answer);
+    size_t given = (size_t)answer[1];
+    show_answer("convert", result, answer, 2);
+    printf("converted %s ", bytes_kept(output, given));
+    show_hex(output.at, given);
+    putchar('\n');
+    free(output.at);
+    return given;
+}
+
+/* Converts into more than is needed, and what is given into one byte less. */
+static void show_converted(struct bytes log) {
+    size_t given = converted(log, log.count + MOST_LONGER + 1);
+    if (given > 0) converted(log, given - 1);
+}
+
 /* ---- the inputs */
 
 /* One batch at the start of the bytes: how many it has, or 0 where none is accepted. */
@@ -217,6 +241,7 @@ static size_t show_batch(struct bytes log) {
     int64_t checked[ODDRAFISK_ENTRIES], answer[ODDRAFISK_ENTRIES];
     mark_answer(checked);
     show_answer("check", oddrafisk_check(mode, log.at, log.count, checked), checked, ODDRAFISK_ENTRIES);
+    show_converted(log);
     struct numbers records = marked_numbers(ODDRAFISK_RECORD_NUMBERS(checked[ODDRAFISK_RECORDS]));
     struct numbers headers = marked_numbers(ODDRAFISK_HEADER_NUMBERS(checked[ODDRAFISK_HEADERS]));
     size_t consumed = 0;
@@ -290,13 +315,13 @@ static void show_input(const char *line, void (*show_bytes)(struct bytes)) {
 
 int main(int count, char **words) {
     bool own_order = count == 3 && strcmp(words[1], "--own-order") == 0;
-    bool keyed = count == 3 && strcmp(words[1], "--keyed") == 0;
-    FILE *file = count == (own_order || keyed ? 3 : 2) ? fopen(words[count - 1], "r") : NULL;
+    bool bare = count == 3 && strcmp(words[1], "--bare") == 0;
+    FILE *file = count == (own_order || bare ? 3 : 2) ? fopen(words[count - 1], "r") : NULL;
     if (file == NULL) {
-        fputs("usage: driver [--own-order | --keyed] FILE\n", stderr);
+        fputs("usage: driver [--own-order | --bare] FILE\n", stderr);
         return 2;
     }
-    if (keyed) mode = ODDRAFISK_KEYED;
+    if (bare) mode = ODDRAFISK_BARE;
     if (own_order) {
         const uint16_t one = 1;
         puts(*(const uint8_t *)&one == 1 ? "little-endian" : "big-endian");

@@ -4,7 +4,7 @@
     compare/processors/inputs.py > FILE
 
 The logs of samples/; the cases of crates/batch_vectors; every beginning of some batches, every change of one byte of
-three of them, as it is and with the checksum set right; random batches to write; random bytes; times at every limit.
+four of them, as it is and with the checksum set right; random batches to write; random bytes; times at every limit.
 What is expected does not stand here: the processors are held to each other, and the library to document 01 elsewhere.
 """
 import pathlib
@@ -24,6 +24,10 @@ CHANGED_BATCHES = (3, 5)
 KEYED_MARKER = bytes.fromhex(
     "0000000000000009 00000042 00000003 02 00000000 0030 00000000 0000018bcfe56800 0000018bcfe56801"
     "0000000000002329 0004 ffffffff 00000001 20 00 00 00 08 00000001 0c 000000000005 00")
+# A commit in the withdrawn form: version and type alone. Its attributes have bits that no writer gives.
+BARE_MARKER = bytes.fromhex(
+    "0000000000000005 00000035 00000003 02 4d8495b3 8070 00000000 00000000000003e8 00000000000003e8"
+    "0000000000000009 0001 ffffffff 00000001 00000001")
 CRC_TABLE = []
 for byte in range(256):
     for _ in range(8):
@@ -131,12 +135,13 @@ def long_numbers(batch):
 
 def damage():
     batches = list(batches_of((TOP / "samples/pinning.log").read_bytes()))
-    keyed = repaired(KEYED_MARKER)
-    for batch in *batches, keyed:
+    markers = repaired(KEYED_MARKER), BARE_MARKER
+    for batch in *batches, *markers:
         beginnings(batch)
         shortened(batch)
         long_numbers(batch)
-    for batch in *(batches[chosen] for chosen in CHANGED_BATCHES), keyed:
+    for batch in *(batches[chosen] for chosen in CHANGED_BATCHES), *markers:
+        log(batch)
         changes(batch)
 
 

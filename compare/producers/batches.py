@@ -9,6 +9,7 @@ Record = namedtuple("Record", "offset time key value headers")
 CREATE_TIME = 0
 RECORDS, ABORT, COMMIT = range(3)
 BATCH_LENGTH_AT, BEFORE_LENGTH = 8, 12
+LOW_ATTRIBUTES_AT, CONTROL = 22, 32
 
 
 def split(log):
@@ -17,6 +18,11 @@ def split(log):
         length = BEFORE_LENGTH + struct.unpack_from(">i", log, BATCH_LENGTH_AT)[0]
         yield log[:length]
         log = log[length:]
+
+
+def is_control(data):
+    """Whether the batch with these bytes has the control bit."""
+    return data[LOW_ATTRIBUTES_AT] & CONTROL != 0
 
 
 def span(data):

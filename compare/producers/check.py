@@ -21,7 +21,7 @@ TOP = pathlib.Path(__file__).resolve().parent.parent.parent
 sys.path.append(str(TOP / "tools"))
 from verdict import end
 
-MORE_BYTES, UNKNOWN_MAGIC, COMPRESSED, NEGATIVE_LENGTH, UNKNOWN_MARKER = 1, 3, 6, 10, 12
+MORE_BYTES, UNKNOWN_MAGIC, COMPRESSED, NEGATIVE_LENGTH, UNKNOWN_MARKER, BARE_MARKER = 1, 3, 6, 10, 12, 41
 # An abort and a commit by sarama 1.22.1, in the form that brokers write: version and type stand in the key of a record,
 # whose value has six bytes.
 BROKERS_MARKERS = bytes.fromhex(
@@ -33,13 +33,19 @@ BROKERS_LINES = [
     "read 0 0 0 0 1700000000000 1700000000001 9001 0 -1 0 1 1 0 0 78 0 0",
     "read 0 1 0 0 1700000000000 1700000000001 9001 0 -1 0 1 2 0 0 78 0 0",
 ]
+# A commit and an abort in the withdrawn form, version and type alone, and their lines.
+BARE_MARKERS = bytes.fromhex(
+    "000000000000bc60 00000035 00000006 02 4ead2cdb 0030 00000000 000001932edfa903 000001932edfa903"
+    "0000000000000fac 0003 ffffffff 00000001 00000001"
+    "000000000000bc63 00000035 00000006 02 84c1ea3d 0030 00000000 000001932edffa19 000001932edffa19"
+    "0000000000000fac 0003 ffffffff 00000001 00000000")
+BARE_LINES = [
+    "read 0 48224 6 0 1731658230019 1731658230019 4012 3 -1 0 1 2 0 0 65 0 0",
+    "read 0 48227 6 0 1731658250777 1731658250777 4012 3 -1 0 1 1 0 0 65 0 0",
+]
 # What python3-kafka does not tell of samples/pinning.log, worked out from its bytes and kept by the base offset: the
-# lines of the two markers, the first a commit, and the times of the records of a batch whose broker has set the time.
-# Document 01 takes the producer's: the first timestamp is 1731658460100, the deltas are 0, 210 and 480.
-MARKERS = {
-    48224: "read 0 48224 6 0 1731658230019 1731658230019 4012 3 -1 0 1 2 0 0 65 0 0",
-    48227: "read 0 48227 6 0 1731658250777 1731658250777 4012 3 -1 0 1 1 0 0 65 0 0",
-}
+# times of the records of a batch whose broker has set the time. Document 01 takes the producer's: the first timestamp
+# is 1731658460100, the deltas are 0, 210 and 480.
 PRODUCERS_TIMES = {48231: (1731658460100, 1731658460310, 1731658460580)}
 # A log, and the lines that are due of its batches and records.
 Log = namedtuple("Log", "data lines")
@@ -97,21 +103,31 @@ class Readers:
             self.hold_canonical(logs)
         with self.tests.named(name + ", read by list"):
             for log in listed:
-                hold(self.listing.read(log.data), self.listing.expected(log.lines, len(log.data)))
+                self.hold_listed(log)
         if self.rust:
             others += ", the Rust"
             with self.tests.named(name + ", read by the Rust"):
-                for log in logs:
+                for log in map(without_markers, logs):
                     hold(self.rust.read(log.data), log.lines)
         print("%s: %d batches, %d records in %d logs, read alike by the library%s, and by list (%d logs); all are"
               " canonical" % (name, count, records, len(logs), others, len(listed)))
 
     def hold_canonical(self, logs):
-        """The library says so of every batch, and writes what it has read with the same bytes."""
+        """The library says so of every batch, writes what it has read with the same bytes, and has nothing to convert
+        in it."""
         for log in logs:
             read = self.library.read(log.data)
             hold([read.canonical], [sum(line.startswith("read ") for line in log.lines)])
-            hold([read.written], [log.data])
+            hold([read.written, read.converted], [log.data] * 2)
+
+    def hold_listed(self, log):
+        hold(self.listing.read(log.data), self.listing.expected(log.lines, len(log.data)))
+
+
+def without_markers(log):
+    """The log without its control batches, whose form the Rust does not know."""
+    data = b"".join(data for data in batches.split(log.data) if not batches.is_control(data))
+    return Log(data, [line for line in log.lines if line.startswith("record ") or line.split()[12] == "0"])
 
 
 def packed(parts):
@@ -132,11 +148,9 @@ def asked(made):
 
 def read_alike(data):
     """The lines of a batch that nobody here has asked for: as python3-kafka reads it, and what it does not tell."""
-    batch, base = python_kafka.read_batch(data), int.from_bytes(data[:8], "big")
-    if batch is None:
-        return [MARKERS[base]]
+    batch = python_kafka.read_batch(data)
     if batch.timestamp_type != batches.CREATE_TIME:
-        times = zip(batch.records, PRODUCERS_TIMES[base], strict=True)
+        times = zip(batch.records, PRODUCERS_TIMES[batch.base_offset], strict=True)
         batch = batch._replace(records=[record._replace(time=time) for record, time in times])
     return batches.lines(batch, len(data))
 
@@ -212,47 +226,80 @@ def by_librdkafka(readers):
 
 
 def brokers_markers(readers):
-    """Markers as brokers write them are read in keyed mode. They are not canonical: the library writes no value."""
-    name = "sarama's markers in keyed mode"
+    """Markers as brokers write them are read, and kept in converting. They are not canonical: the library writes no
+    value."""
+    name = "sarama's markers"
     markers = list(batches.split(BROKERS_MARKERS))
     with readers.tests.named(name + ", read by python3-kafka"):
         read = [python_kafka.read_marker(data) for data in markers]
         hold([line for batch, _ in read for line in batches.lines(batch, 78)], BROKERS_LINES)
     with readers.tests.named(name + ", read by the library"):
-        written = b"".join(readers.library.write(batch, ours.KEYED) for batch, _ in read)
-        hold(readers.library.read(BROKERS_MARKERS, ours.KEYED), ours.Reading(BROKERS_LINES, 0, written, MORE_BYTES))
-    print("%s: %d, read alike by the library, python3-kafka; none is canonical" % (name, len(markers)))
+        written = b"".join(readers.library.write(batch) for batch, _ in read)
+        due = ours.Reading(BROKERS_LINES, 0, written, BROKERS_MARKERS, MORE_BYTES)
+        hold(readers.library.read(BROKERS_MARKERS), due)
+    with readers.tests.named(name + ", read by list"):
+        readers.hold_listed(Log(BROKERS_MARKERS, BROKERS_LINES))
+    print("%s: %d, read alike by the library, python3-kafka, and by list; none is canonical" % (name, len(markers)))
+
+
+def bare_markers(readers):
+    """Markers in the withdrawn form, which the Rust reads, are refused in both modes. What is converted of them is read
+    by python3-kafka with the same fields, and is all that the library writes for these."""
+    name = "bare markers"
+    markers = list(batches.split(BARE_MARKERS))
+    if readers.rust:
+        with readers.tests.named(name + ", read by the Rust"):
+            hold(readers.rust.read(BARE_MARKERS), BARE_LINES)
+    with readers.tests.named(name + ", refused by the library"):
+        read = [readers.library.read(data, mode) for data in markers for mode in (ours.BARE, ours.KEYED)]
+        hold([reading._replace(converted=b"") for reading in read],
+             [ours.Reading([], 0, b"", b"", BARE_MARKER)] * len(read))
+    with readers.tests.named(name + ", converted, read by python3-kafka"):
+        converted = [reading.converted for reading in read[1::2]]
+        hold([reading.converted for reading in read[::2]], converted)
+        lines = [line.replace(" 65 0 0", " 72 0 0") for line in BARE_LINES]
+        hold([line for data in converted for line in batches.lines(python_kafka.read_batch(data), len(data))], lines)
+    with readers.tests.named(name + ", converted, read by the library, canonical"):
+        log = Log(b"".join(converted), lines)
+        hold(readers.library.read(log.data), ours.Reading(lines, len(markers), log.data, log.data, MORE_BYTES))
+    with readers.tests.named(name + ", converted, read by list"):
+        readers.hold_listed(log)
+    print("%s: %d, refused by the library, and once converted read alike by it, python3-kafka, and by list; all are"
+          " canonical" % (name, len(markers)))
 
 
 def keyed_markers(readers):
-    """What the library writes in keyed mode is one record to python3-kafka, with the four bytes as its key."""
-    name = "markers written by the library in keyed mode"
+    """What the library writes is one record to python3-kafka, with the four bytes as its key."""
+    name = "markers written by the library"
     chosen = [cases.marker(kind, 2 ** 40 + kind) for kind in (batches.ABORT, batches.COMMIT)]
     with readers.tests.named(name + ", read by python3-kafka"):
-        written = [readers.library.write(batch, ours.KEYED) for batch in chosen]
+        written = [readers.library.write(batch) for batch in chosen]
         for batch, data in zip(chosen, written, strict=True):
             key = {kind: key for key, kind in python_kafka.KINDS.items()}[batch.kind]
             record = batches.Record(batch.base_offset, batch.first_timestamp, key, None, [])
             hold(python_kafka.read_marker(data), (batch, record))
     with readers.tests.named(name + ", read by the library, canonical"):
         log, lines = b"".join(written), [line for batch in chosen for line in batches.lines(batch, 72)]
-        hold(readers.library.read(log, ours.KEYED), ours.Reading(lines, len(chosen), log, MORE_BYTES))
-    print("%s: %d, read alike by the library, python3-kafka: control batches of one record" % (name, len(chosen)))
+        hold(readers.library.read(log), ours.Reading(lines, len(chosen), log, log, MORE_BYTES))
+    with readers.tests.named(name + ", read by list"):
+        readers.hold_listed(Log(log, lines))
+    print("%s: %d, read alike by the library, python3-kafka, and by list: control batches of one record" % (
+        name, len(chosen)))
 
 
 def transactions(readers):
-    """Transactions, each ended by a marker in keyed mode, with further records after the last of them. The cluster
+    """Transactions, each ended by a marker, with further records after the last of them. The cluster
     names no transaction that was aborted, so the consumer reads the records of that one, too."""
     records = cases.batch(cases.plain(3), producer=(7, 1, 40), transactional=1)
     commit, abort = (cases.marker(kind, 0) for kind in (batches.COMMIT, batches.ABORT))
     put = [records, commit, records._replace(base_sequence=43), commit, records._replace(base_sequence=46), abort,
            cases.batch(cases.plain(2))]
     due, log, lines = [], b"", []
-    with readers.tests.named("keyed markers between transactions, passed over by librdkafka"):
+    with readers.tests.named("markers between transactions, passed over by librdkafka"):
         cluster = librdkafka.Cluster()
         at = 0
         for batch in put:
-            data = readers.library.write(batch, ours.KEYED)
+            data = readers.library.write(batch)
             cluster.put(data)
             # The cluster gives each batch its offset, which the checksum leaves out.
             log += at.to_bytes(8, "big") + data[8:]
@@ -261,11 +308,13 @@ def transactions(readers):
             lines += batches.lines(batch._replace(base_offset=at, records=moved), len(data))
             at += max(1, len(moved))
         hold(cluster.consume(len(due)), due)
-    with readers.tests.named("keyed markers between transactions, read by the library"):
+    with readers.tests.named("markers between transactions, read by the library"):
         hold([cluster.fetch()], [log])
-        hold(readers.library.read(log, ours.KEYED), ours.Reading(lines, len(put), log, MORE_BYTES))
-    print("keyed markers between transactions: librdkafka's consumer passes over %d and reads %d records; the library"
-          " reads all %d batches in keyed mode" % (len(put) - sum(1 for b in put if b.records), len(due), len(put)))
+        hold(readers.library.read(log), ours.Reading(lines, len(put), log, log, MORE_BYTES))
+    with readers.tests.named("markers between transactions, read by list"):
+        readers.hold_listed(Log(log, lines))
+    print("markers between transactions: librdkafka's consumer passes over %d and reads %d records; the library and"
+          " list read all %d batches" % (len(put) - sum(1 for b in put if b.records), len(due), len(put)))
 
 
 def refused(readers):
@@ -279,11 +328,14 @@ def refused(readers):
         "its gzip": (python_kafka.made(cases.batch(cases.plain(100)), python_kafka.GZIP), COMPRESSED),
         "its magic 1": (bytes(old.build()), UNKNOWN_MAGIC),
     }
-    for kind, data in zip(("abort", "commit"), batches.split(BROKERS_MARKERS), strict=True):
-        made["sarama's %s in bare mode" % kind] = data, UNKNOWN_MARKER
     for name, (data, number) in made.items():
         with readers.tests.named("refused, " + name):
-            hold(readers.library.read(data), ours.Reading([], 0, b"", number))
+            hold(readers.library.read(data), ours.Reading([], 0, b"", b"", number))
+    for kind, data in zip(("abort", "commit"), batches.split(BROKERS_MARKERS), strict=True):
+        name = "sarama's %s in bare mode" % kind
+        made[name] = data, UNKNOWN_MARKER
+        with readers.tests.named("refused, " + name):
+            hold(readers.library.read(data, ours.BARE), ours.Reading([], 0, b"", data, UNKNOWN_MARKER))
     print("refused: " + ", ".join("%s by %d" % (n, k) for n, (_, k) in made.items()))
 
 
@@ -298,6 +350,7 @@ def main():
         (from_library,),
         (by_librdkafka,),
         (brokers_markers,),
+        (bare_markers,),
         (keyed_markers,),
         (transactions,),
         (refused,),

@@ -7,12 +7,12 @@ from collections import namedtuple
 
 TOP = pathlib.Path(__file__).resolve().parent.parent.parent
 # The lines of a log's batches and records, how many batches the library says are canonical, the bytes that it writes of
-# what it has read, and the number that it answers at last.
-Reading = namedtuple("Reading", "lines canonical written number")
+# what it has read, those that it gives in converting, and the number that it answers at last.
+Reading = namedtuple("Reading", "lines canonical written converted number")
 LIST_MOST = 65536
 KINDS = ("records", "abort", "commit")
 # The words by which the driver is told the mode.
-BARE, KEYED = (), ("--keyed",)
+BARE, KEYED = ("--bare",), ()
 
 
 def run(words, data=b""):
@@ -31,10 +31,15 @@ def accepted(printed):
     return [line for line in printed if line.startswith(("read 0 ", "record "))]
 
 
+def shown(printed, word):
+    """The bytes in the line after each that says that the function of this name accepts."""
+    pairs = zip(printed, printed[1:])
+    return [bytes.fromhex(output.split()[2]) for line, output in pairs if line.startswith(word + " 0 ")]
+
+
 def written(printed):
     """The bytes of each batch that was written."""
-    pairs = zip(printed, printed[1:])
-    return [bytes.fromhex(output.split()[2]) for line, output in pairs if line.startswith("write 0 ")]
+    return shown(printed, "write")
 
 
 class Library:
@@ -44,12 +49,13 @@ class Library:
     def answers(self, text, mode):
         return with_file([self.driver, *mode], text.encode())
 
-    def read(self, log, mode=BARE):
+    def read(self, log, mode=KEYED):
         printed = self.answers("log %s\n" % log.hex().upper(), mode)
         numbers = [line.split()[1] for line in printed if line.startswith("check ")]
-        return Reading(accepted(printed), printed.count("canonical 1"), b"".join(written(printed)), int(numbers[-1]))
+        return Reading(accepted(printed), printed.count("canonical 1"), b"".join(written(printed)),
+                       b"".join(shown(printed, "convert")), int(numbers[-1]))
 
-    def write(self, batch, mode=BARE):
+    def write(self, batch):
         source, records, headers = b"", [], []
 
         def row(data):
@@ -66,7 +72,7 @@ class Library:
                 headers += *row(key.encode()), *row(value)
         numbers = ((0, *batch[:-1], len(batch.records), 0, 0, 0, 0), records, headers)
         text = "|".join(" ".join(map(str, part)) for part in numbers)
-        return written(self.answers("write %s|%s\n" % (text, source.hex().upper()), mode))[0]
+        return written(self.answers("write %s|%s\n" % (text, source.hex().upper()), KEYED))[0]
 
 
 class Rust:

@@ -21,9 +21,9 @@ def made(batch, codec=NO_CODEC):
 
 
 def read_batch(data):
-    """The batch with these bytes, or None for a control batch, whose records are read by brokers' rules alone."""
+    """The batch with these bytes. A control batch has no records: its record says of what kind it is."""
     found = checked(data)
-    return None if found.is_control_batch else batch_of(data, found, RECORDS, records_of(found))
+    return read_marker(data)[0] if found.is_control_batch else batch_of(data, found, RECORDS, records_of(found))
 
 
 def read_marker(data):

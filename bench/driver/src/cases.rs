@@ -5,10 +5,11 @@ use crate::side::{Operation, Outcome};
 use crate::value::Batch;
 
 /// Places of a batch's bytes (document 01, Fixed fields), and the bytes before the records.
+pub const BATCH_LENGTH: usize = 8;
 const MAGIC: usize = 16;
-const CRC: usize = 17;
+pub const CRC: usize = 17;
 pub const CHECKED: usize = 21;
-const FIXED: usize = 61;
+pub const FIXED: usize = 61;
 
 /// More bytes than a record of these cases has beside its key, its value and its headers.
 const MOST_OVERHEAD: usize = 24;
@@ -98,7 +99,7 @@ impl Asked {
         let mut output = vec![0; most];
         let mut answer = [0];
         let Self { entries, codec, tables, source } = self;
-        let mode = oddrafisk::BARE;
+        let mode = oddrafisk::KEYED;
         let number =
             oddrafisk::write(mode, entries, *codec, tables, source, &mut output, &mut answer);
         assert_eq!(number, oddrafisk::ACCEPTED, "a case cannot be written");

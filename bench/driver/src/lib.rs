@@ -16,6 +16,7 @@ use std::time::Duration;
 use cases::{CHECKED, MAKERS};
 use side::{repeat, Operation, Runner, Side};
 use timing::{in_turns, Plan, Spread};
+use users::Pair;
 
 const COMPARED: [Operation; 3] = [Operation::Read, Operation::Write, Operation::Canonical];
 const GROWING: [Operation; 4] =
@@ -26,7 +27,7 @@ agree                                     that the sides give the same, case by 
 time MICROSECONDS ROUNDS                  each operation of each case; a turn lasts MICROSECONDS
 checksum MICROSECONDS ROUNDS              the checksums alone
 growth MICROSECONDS ROUNDS LARGEST        the first side, from 1 KiB to LARGEST bytes
-users ROUNDS PROGRAM FILE                 the safe crate, and PROGRAM on FILE, which is written
+users ROUNDS PROGRAM FILE                 the safe crate, PROGRAM on FILE, which is written, and the conversion
 cells                                     what `repeat` can be told, with the case's name and bytes
 repeat SIDE OPERATION CASE TIMES          one operation of one case by one side, and nothing else";
 
@@ -128,12 +129,16 @@ fn growth(side: &dyn Side, plan: Plan, largest: usize) {
     }
 }
 
-/// One log in two ways, twice. A turn is the whole log, which takes longer than these milliseconds.
+/// One log in two ways, three times, the last time with markers in it. A turn is the whole log, which takes longer than
+/// these milliseconds.
 fn users(rounds: usize, program: &str, file: &Path) {
     let log = users::pinnings();
+    let marked = users::with_markers(&log);
     let plan = Plan { turn: Duration::from_millis(10), rounds };
-    for pair in [users::reading(&log), users::verifying(&log, program, file)] {
-        print_times("users", pair.operation, "a million pinnings", log.len(), pair.runners, plan);
+    let pairs =
+        [users::reading(&log), users::verifying(&log, program, file), users::converting(&marked)];
+    for Pair { operation, log, runners } in pairs {
+        print_times("users", operation, "a million pinnings", log.len(), runners, plan);
     }
 }
 

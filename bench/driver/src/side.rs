@@ -64,12 +64,12 @@ pub struct Oddrafisk {
 }
 
 impl Oddrafisk {
-    /// In the mode that the environment names: ODDRAFISK_BENCH_CONTROL=keyed, or bare, the default.
+    /// In the mode that the environment names: ODDRAFISK_BENCH_CONTROL=bare, or keyed, the default.
     pub fn of_environment() -> Self {
         const VARIABLE: &str = "ODDRAFISK_BENCH_CONTROL";
         let mode = match std::env::var(VARIABLE).as_deref() {
-            Ok("keyed") => oddrafisk::KEYED,
-            Ok("bare") | Err(std::env::VarError::NotPresent) => oddrafisk::BARE,
+            Ok("bare") => oddrafisk::BARE,
+            Ok("keyed") | Err(std::env::VarError::NotPresent) => oddrafisk::KEYED,
             word => panic!("{VARIABLE} is bare or keyed, and not {word:?}"),
         };
         Self { mode }

@@ -1,5 +1,5 @@
-//! What users wait for beside the C functions: a log read by the safe crate's iterator, and a file verified by the
-//! program `oddrafisk`.
+//! What users wait for beside the C functions: a log read by the safe crate's iterator, a file verified by the program
+//! `oddrafisk`, and a log converted.
 
 use std::fs;
 use std::hint::black_box;
@@ -8,16 +8,33 @@ use std::process::Command;
 
 use oddrafisk_sys as sys;
 
+use crate::cases::{BATCH_LENGTH, CHECKED, CRC, FIXED};
 use crate::oddrafisk::{Tables, BYTES, ENTRIES, HEADER_ROW, RECORDS, RECORD_ROW};
 use crate::side::{repeat, Runner};
 
 const BATCHES: i64 = 10_000;
 const RECORDS_IN_A_BATCH: i64 = 100;
+/// How many batches a transaction has, after which a marker ends it.
+const BATCHES_IN_A_TRANSACTION: usize = 10;
 
-/// Two ways to the same, of which the first is the measure of the second.
+/// The number of what is refused as a bare marker, how many bytes that has, and how many it has once it is converted.
+const BARE_MARKER: u32 = 41;
+const BARE_BYTES: usize = 65;
+const KEYED_BYTES: usize = 72;
+/// Where the four bytes of a bare marker stand in the converted one.
+const KEY: usize = 66;
+
+/// Two ways to the same with a log, of which the first is the measure of the second.
 pub struct Pair<'a> {
     pub operation: &'static str,
+    pub log: &'a [u8],
     pub runners: Vec<(&'static str, Runner<'a>)>,
+}
+
+/// A log with bare markers, and what it becomes by the conversion.
+pub struct Marked {
+    bare: Vec<u8>,
+    keyed: Vec<u8>,
 }
 
 /// A pinning log: a million records, each with a cookie of 24 bytes and a server of 12.
@@ -44,7 +61,7 @@ pub fn reading(log: &[u8]) -> Pair<'_> {
         ("C functions", repeat(move || by_functions(black_box(log)))),
         ("safe crate", repeat(move || by_iterator(black_box(log)))),
     ];
-    Pair { operation: "read a log", runners }
+    Pair { operation: "read a log", log, runners }
 }
 
 /// The log in a file as the program verifies it, and as `check` does in memory.
@@ -56,7 +73,93 @@ pub fn verifying<'a>(log: &'a [u8], program: &'a str, file: &'a Path) -> Pair<'a
     };
     let runners: Vec<(_, Runner)> =
         vec![("check", repeat(move || check(black_box(log)))), ("program", repeat(verify))];
-    Pair { operation: "verify a log", runners }
+    Pair { operation: "verify a log", log, runners }
+}
+
+/// The log with a marker after each transaction.
+pub fn with_markers(log: &[u8]) -> Marked {
+    let mut marked = Marked { bare: Vec::new(), keyed: Vec::new() };
+    let mut answer = [0; ENTRIES];
+    let (mut rest, mut batches) = (log, 0);
+    while !rest.is_empty() {
+        assert_eq!(
+            sys::check(sys::KEYED, rest, &mut answer),
+            sys::ACCEPTED,
+            "the log is all right"
+        );
+        let (batch, next) = rest.split_at(answer[BYTES] as usize);
+        marked.bare.extend(batch);
+        marked.keyed.extend(batch);
+        batches += 1;
+        if batches % BATCHES_IN_A_TRANSACTION == 0 {
+            let keyed = marker(&answer);
+            marked.bare.extend(bare(&keyed));
+            marked.keyed.extend(keyed);
+        }
+        rest = next;
+    }
+    marked
+}
+
+/// The marker that commits what ends with this batch.
+fn marker(last: &[i64; ENTRIES]) -> [u8; KEYED_BYTES] {
+    let mut entries = [0; ENTRIES];
+    entries[sys::BASE_OFFSET] = last[sys::BASE_OFFSET] + last[sys::LAST_OFFSET_DELTA] + 1;
+    entries[sys::FIRST_TIMESTAMP] = last[sys::MAX_TIMESTAMP];
+    entries[sys::MAX_TIMESTAMP] = last[sys::MAX_TIMESTAMP];
+    entries[sys::BASE_SEQUENCE] = -1;
+    entries[sys::IS_TRANSACTIONAL] = 1;
+    entries[sys::KIND] = sys::KIND_COMMIT;
+    let mut keyed = [0; KEYED_BYTES];
+    let number = sys::write(sys::KEYED, &entries, 0, &[], &[], &[], &mut keyed, &mut [0]);
+    assert_eq!(number, sys::ACCEPTED, "a marker cannot be written");
+    keyed
+}
+
+/// The marker in the form that is no longer written.
+fn bare(keyed: &[u8; KEYED_BYTES]) -> [u8; BARE_BYTES] {
+    let mut bare = [0; BARE_BYTES];
+    bare[..FIXED].copy_from_slice(&keyed[..FIXED]);
+    bare[FIXED..].copy_from_slice(&keyed[KEY..][..BARE_BYTES - FIXED]);
+    let length = (BARE_BYTES - BATCH_LENGTH - 4) as u32;
+    bare[BATCH_LENGTH..][..4].copy_from_slice(&length.to_be_bytes());
+    let crc = sys::crc32c(&bare[CHECKED..]);
+    bare[CRC..CHECKED].copy_from_slice(&crc.to_be_bytes());
+    bare
+}
+
+/// The log with markers as the conversion takes it, batch by batch, and as it is checked, the markers being passed
+/// over, and copied.
+pub fn converting(marked: &Marked) -> Pair<'_> {
+    let Marked { bare: log, keyed } = marked;
+    let mut converted = vec![0; keyed.len()];
+    assert_eq!(convert(log, &mut converted), keyed.len(), "all of the log is converted");
+    assert!(converted == *keyed, "the log becomes what it should");
+    let mut copy = vec![0; log.len()];
+    let runners: Vec<(_, Runner)> = vec![
+        ("check and copy", repeat(move || check_and_copy(black_box(log), &mut copy))),
+        ("convert", repeat(move || convert(black_box(log), &mut converted))),
+    ];
+    Pair { operation: "convert a log", log, runners }
+}
+
+/// How many bytes are given.
+fn convert(log: &[u8], output: &mut [u8]) -> usize {
+    let mut answer = [0; 2];
+    let (mut place, mut end) = (0, 0);
+    while place < log.len() {
+        let number = sys::convert(&log[place..], &mut output[end..], &mut answer);
+        assert_eq!(number, sys::ACCEPTED, "the log is all right");
+        place += answer[0] as usize;
+        end += answer[1] as usize;
+    }
+    end
+}
+
+fn check_and_copy(log: &[u8], output: &mut [u8]) -> usize {
+    let batches = check(log);
+    black_box(output).copy_from_slice(log);
+    batches
 }
 
 /// How many bytes the keys and the values have, so that each is looked up.
@@ -80,7 +183,7 @@ fn by_functions(log: &[u8]) -> usize {
     while place < log.len() {
         let batch = &log[place..];
         let number =
-            sys::read(sys::BARE, batch, &mut tables.records, &mut tables.headers, &mut answer);
+            sys::read(sys::KEYED, batch, &mut tables.records, &mut tables.headers, &mut answer);
         assert_eq!(number, sys::ACCEPTED, "the log is all right");
         for row in tables.records.chunks_exact(RECORD_ROW).take(answer[RECORDS] as usize) {
             bytes +=
@@ -101,13 +204,18 @@ fn span(batch: &[u8], start: i64, length: i64) -> usize {
     }
 }
 
+/// How many batches there are. Bare markers are passed over.
 fn check(log: &[u8]) -> usize {
     let mut answer = [0; ENTRIES];
     let (mut place, mut batches) = (0, 0);
     while place < log.len() {
-        let number = sys::check(sys::BARE, &log[place..], &mut answer);
-        assert_eq!(number, sys::ACCEPTED, "the log is all right");
-        place += answer[BYTES] as usize;
+        place += match sys::check(sys::KEYED, &log[place..], &mut answer) {
+            BARE_MARKER => BARE_BYTES,
+            number => {
+                assert_eq!(number, sys::ACCEPTED, "the log is all right");
+                answer[BYTES] as usize
+            }
+        };
         batches += 1;
     }
     batches

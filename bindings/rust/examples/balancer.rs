@@ -1,7 +1,7 @@
 //! A restarted balancer: reads a pinning log and keeps the latest pinning of each cookie.
 //!
 //! ```text
-//! cargo run --release --example balancer FILE [--skip] [--keyed]
+//! cargo run --release --example balancer FILE [--skip]
 //! ```
 //!
 //! A record's key is a cookie and its value the server that the cookie is pinned to; a null value
@@ -14,17 +14,14 @@
 //! the next place need be no batch's beginning: so it stops where what it finds there is refused as
 //! well, or does not come after what it has read. A marker may be among what is lost, so that what
 //! stands in a transaction which is open there is dropped, and is said to be lost.
-//!
-//! With `--keyed` the markers are read as brokers write them, and else as `write_log` does.
 
 use std::collections::{BTreeMap, HashMap};
-use std::ffi::OsString;
 use std::path::Path;
 use std::process::ExitCode;
 use std::time::{Duration, Instant};
 use std::{env, fs};
 
-use oddrafisk::{Batch, ControlMode, Kind, Log, LogError, Marker};
+use oddrafisk::{Batch, Kind, Log, LogError, Marker};
 
 /// What a record says of a cookie. The later of two has the greater number.
 #[derive(Clone, Copy)]
@@ -189,18 +186,11 @@ impl<'a> Reading<'a> {
 
 fn main() -> ExitCode {
     let arguments: Vec<_> = env::args_os().skip(1).collect();
-    let (mut skips, mut mode) = (false, ControlMode::Bare);
-    let known = |option: &OsString| {
-        skips |= option == "--skip";
-        if option == "--keyed" {
-            mode = ControlMode::Keyed;
-        }
-        option == "--skip" || option == "--keyed"
-    };
-    let file = match arguments.split_first() {
-        Some((file, options)) if options.iter().all(known) => file,
+    let (file, skips) = match &arguments[..] {
+        [file] => (file, false),
+        [file, option] if option == "--skip" => (file, true),
         _ => {
-            eprintln!("balancer FILE [--skip] [--keyed]");
+            eprintln!("balancer FILE [--skip]");
             return ExitCode::from(2);
         }
     };
@@ -213,7 +203,7 @@ fn main() -> ExitCode {
     };
     let mut pinnings = Pinnings::default();
     let mut reading = Reading {
-        log: Log::new(&bytes).in_mode(mode),
+        log: Log::new(&bytes),
         skips,
         last_offset: None,
         passed_over: false,

@@ -22,29 +22,34 @@ pub enum TimestampType {
     LogAppendTime = 1,
 }
 
-/// Which form the markers have that end transactions: they are read and written in one form or the
-/// other, and a marker of the one is refused where the other is asked for.
+/// Whether the markers that end transactions are read and written, which is to say in which form.
 ///
-/// Whatever takes no mode has the default, which is [`Bare`](ControlMode::Bare): logs of brokers are
-/// to be read with [`Keyed`](ControlMode::Keyed). Batches of records are the same in both.
+/// Whatever takes no mode has the default, which is [`Keyed`](ControlMode::Keyed): the form that
+/// brokers write. Batches of records are the same in both modes. A marker in the form that gave
+/// [`Bare`](ControlMode::Bare) its name is refused in either, by
+/// [`BareMarker`](crate::Refusal::BareMarker), and [`convert`](crate::convert) makes a keyed one of
+/// it.
 ///
 /// ```
 /// use oddrafisk::{check, check_in, ControlMode, Fields, Kind, Marker, Refusal};
 ///
-/// let bytes = Marker::Commit.in_mode(ControlMode::Keyed).to_vec(&Fields::default());
-/// let outline = check_in(ControlMode::Keyed, &bytes)?;
+/// let bytes = Marker::Commit.to_vec(&Fields::default());
+/// let outline = check(&bytes)?;
 /// assert_eq!((outline.kind, outline.bytes), (Kind::Marker(Marker::Commit), 72));
-/// assert_eq!(check(&bytes), Err(Refusal::UnknownControl.into()));
+/// assert_eq!(check_in(ControlMode::Keyed, &bytes), Ok(outline));
+/// assert_eq!(check_in(ControlMode::Bare, &bytes), Err(Refusal::UnknownControl.into()));
 /// # Ok::<(), oddrafisk::ReadError>(())
 /// ```
 #[derive(Debug, Clone, Copy, PartialEq, Eq, Hash, Default)]
 pub enum ControlMode {
-    /// Version and type alone, four bytes after the fixed fields, as the Rust crate rskafka has it.
-    #[default]
+    /// No marker at all: what is read and written is batches of records alone. Before version 0.4.0
+    /// a marker was version and type alone here, four bytes after the fixed fields, as the Rust
+    /// crate rskafka has it.
     Bare,
     /// A record whose key begins with version and type, as brokers write it. What else is in that
     /// record is ignored. It is written without anything else; the value of six bytes that brokers
     /// put after the key is read, and makes a marker that is not canonical.
+    #[default]
     Keyed,
 }
 
@@ -57,7 +62,7 @@ impl ControlMode {
     }
 }
 
-/// How a transaction ends. [`ControlMode`] says in which form that stands in the bytes.
+/// How a transaction ends.
 ///
 /// ```
 /// use oddrafisk::{Batch, Fields, Kind, Marker};

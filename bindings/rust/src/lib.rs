@@ -6,6 +6,7 @@
 extern crate alloc;
 
 mod batch;
+mod converting;
 mod log;
 mod reading;
 mod refusal;
@@ -14,6 +15,7 @@ mod writing;
 pub use batch::{
     record_time, Batch, ControlMode, Fields, Header, Kind, Marker, Outline, Record, TimestampType,
 };
+pub use converting::{convert, Conversion};
 pub use log::{Log, LogError};
 pub use reading::{check, check_in, framed, is_canonical, is_canonical_in, ReadError, Reader};
 pub use refusal::{PushRefusal, Refusal, WriteRefusal};

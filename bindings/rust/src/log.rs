@@ -30,7 +30,7 @@ pub struct Log<'a> {
 }
 
 impl<'a> Log<'a> {
-    /// The log that these bytes are, from its beginning, with bare markers.
+    /// The log that these bytes are, from its beginning, with keyed markers, as brokers write them.
     ///
     /// Bytes that may change meanwhile, as those of a mapped file that is written, are to be copied
     /// first: [what a caller owes](crate#what-a-caller-owes).
@@ -47,19 +47,19 @@ impl<'a> Log<'a> {
         }
     }
 
-    /// The same log, from where it is, with markers of that form. A log of a broker has keyed ones.
-    /// A log that has stopped stays so.
+    /// The same log, from where it is, in that mode. A log that has stopped stays so.
     ///
     /// ```
     /// use oddrafisk::{BatchBuilder, ControlMode, Fields, Kind, Log, Marker};
     ///
     /// let mut bytes = BatchBuilder::default().to_vec().unwrap();
-    /// Marker::Commit.in_mode(ControlMode::Keyed).append_to(&Fields::default(), &mut bytes);
-    /// let log = Log::new(&bytes).in_mode(ControlMode::Keyed);
+    /// Marker::Commit.append_to(&Fields::default(), &mut bytes);
+    /// let log = Log::new(&bytes);
     /// let kinds = log.map(|batch| Ok(batch?.kind())).collect::<Result<Vec<_>, _>>()?;
     /// assert_eq!(kinds, [Kind::Records, Kind::Marker(Marker::Commit)]);
     ///
-    /// let error = Log::new(&bytes).find_map(Result::err).unwrap();
+    /// let mut log = Log::new(&bytes).in_mode(ControlMode::Bare);
+    /// let error = log.find_map(Result::err).unwrap();
     /// assert_eq!((error.place, error.reason.number()), (61, 12));
     /// # Ok::<(), oddrafisk::LogError>(())
     /// ```

@@ -66,7 +66,7 @@ impl fmt::Display for ReadError {
 
 impl Error for ReadError {}
 
-/// What the bytes begin with, without its records, where markers are bare.
+/// What the bytes begin with, without its records.
 ///
 /// Bytes that may change meanwhile, as those of a mapped file that is written, are to be copied
 /// first: [what a caller owes](crate#what-a-caller-owes).
@@ -81,7 +81,7 @@ pub fn check(bytes: &[u8]) -> Result<Outline, ReadError> {
     check_in(ControlMode::default(), bytes)
 }
 
-/// The same as [`check`] in a mode: where markers have that form.
+/// The same as [`check`] in a mode, which is keyed where none is named.
 ///
 /// ```
 /// use oddrafisk::{check_in, BatchBuilder, ControlMode};
@@ -135,8 +135,8 @@ pub fn framed(bytes: &[u8]) -> Result<usize, ReadError> {
 /// short as that.
 const FRAME: usize = 17;
 
-/// Whether the bytes, all of them, are one batch just as [`BatchBuilder`](crate::BatchBuilder)
-/// writes it, or [`Marker`](crate::Marker) in its bare form.
+/// Whether the bytes, all of them, are one batch just as [`BatchBuilder`](crate::BatchBuilder) or
+/// [`Marker`](crate::Marker) writes it.
 ///
 /// Bytes that may change meanwhile, as those of a mapped file that is written, are to be copied
 /// first: [what a caller owes](crate#what-a-caller-owes).
@@ -152,12 +152,13 @@ pub fn is_canonical(bytes: &[u8]) -> bool {
     is_canonical_in(ControlMode::default(), bytes)
 }
 
-/// The same as [`is_canonical`] in a mode: where markers have that form.
+/// The same as [`is_canonical`] in a mode, which is keyed where none is named. In the bare mode no
+/// control batch is.
 ///
 /// ```
 /// use oddrafisk::{is_canonical_in, ControlMode, Fields, Marker};
 ///
-/// let bytes = Marker::Abort.in_mode(ControlMode::Keyed).to_vec(&Fields::default());
+/// let bytes = Marker::Abort.to_vec(&Fields::default());
 /// assert!(is_canonical_in(ControlMode::Keyed, &bytes));
 /// assert!(!is_canonical_in(ControlMode::Bare, &bytes));
 /// ```
@@ -166,8 +167,8 @@ pub fn is_canonical_in(mode: ControlMode, bytes: &[u8]) -> bool {
 }
 
 impl<'a> Batch<'a, 'static> {
-    /// Reads the batch that the bytes begin with, where markers are bare; [`Reader::in_mode`] reads
-    /// it in another mode. What follows it is not looked at.
+    /// Reads the batch that the bytes begin with, in the keyed mode; [`Reader::in_mode`] reads it
+    /// in another. What follows it is not looked at.
     ///
     /// Bytes that may change meanwhile, as those of a mapped file that is written, are to be copied
     /// first: [what a caller owes](crate#what-a-caller-owes).
@@ -215,7 +216,7 @@ pub struct Reader {
 }
 
 impl Reader {
-    /// A reader whose tables are still empty, for bare markers.
+    /// A reader whose tables are still empty, for keyed markers.
     ///
     /// ```
     /// let mut reader = oddrafisk::Reader::new();
@@ -225,13 +226,13 @@ impl Reader {
         Reader::default()
     }
 
-    /// The same reader, tables and all, for markers of that form.
+    /// The same reader, tables and all, in that mode.
     ///
     /// ```
     /// use oddrafisk::{ControlMode, Fields, Kind, Marker, Reader};
     ///
-    /// let bytes = Marker::Abort.in_mode(ControlMode::Keyed).to_vec(&Fields::default());
-    /// let mut reader = Reader::new().in_mode(ControlMode::Keyed);
+    /// let bytes = Marker::Abort.to_vec(&Fields::default());
+    /// let mut reader = Reader::new();
     /// assert_eq!(reader.read(&bytes)?.kind(), Kind::Marker(Marker::Abort));
     /// assert_eq!(reader.in_mode(ControlMode::Bare).read(&bytes).unwrap_err().number(), 12);
     /// # Ok::<(), oddrafisk::ReadError>(())

@@ -34,16 +34,20 @@ pub enum Refusal {
     NegativeLength = 10,
     /// The key of a header is not UTF-8.
     KeyNotUtf8 = 11,
-    /// The version or the type of a marker is unknown; where markers are keyed, the key may also be
-    /// null or shorter than the four bytes of both. What brokers write is such a one where markers
-    /// are bare: [`ControlMode`](crate::ControlMode).
+    /// The version or the type of a marker is unknown, or its key is null or shorter than the four
+    /// bytes of both. In the bare mode every keyed marker is such a one:
+    /// [`ControlMode`](crate::ControlMode).
     UnknownControl = 12,
     /// Bytes are left in a record, or after the last record or the marker.
     BytesLeft = 13,
+    /// The batch is a bare marker with no other fault. That form is withdrawn:
+    /// [`convert`](crate::convert) makes a keyed marker of it, and the program `oddrafisk convert`
+    /// converts whole files.
+    BareMarker = 41,
 }
 
 impl Refusal {
-    const ALL: [Refusal; 12] = [
+    const ALL: [Refusal; 13] = [
         Refusal::LengthTooSmall,
         Refusal::UnknownMagic,
         Refusal::ChecksumDiffers,
@@ -56,9 +60,10 @@ impl Refusal {
         Refusal::KeyNotUtf8,
         Refusal::UnknownControl,
         Refusal::BytesLeft,
+        Refusal::BareMarker,
     ];
 
-    /// Its number, 2 to 13.
+    /// Its number, 2 to 13 or 41.
     ///
     /// ```
     /// assert_eq!(oddrafisk::Refusal::ChecksumDiffers.number(), 4);
@@ -92,6 +97,9 @@ impl Refusal {
             Refusal::KeyNotUtf8 => "the key of a header is not UTF-8",
             Refusal::UnknownControl => "the control marker is unknown",
             Refusal::BytesLeft => "bytes are left over",
+            Refusal::BareMarker => {
+                "bare markers are withdrawn; `oddrafisk convert IN OUT` converts a stored log"
+            }
         }
     }
 }
@@ -125,16 +133,20 @@ pub enum WriteRefusal {
     TooLong = 23,
     /// The output is shorter than the batch.
     ShortOutput = 24,
+    /// A marker is asked for in the bare mode, in which none is written:
+    /// [`ControlMode`](crate::ControlMode).
+    BareMarker = 41,
 }
 
 impl WriteRefusal {
-    const ALL: [WriteRefusal; 3] = [
+    const ALL: [WriteRefusal; 4] = [
         WriteRefusal::WrongRow,
         WriteRefusal::TooLong,
         WriteRefusal::ShortOutput,
+        WriteRefusal::BareMarker,
     ];
 
-    /// Its number: 21, 23 or 24.
+    /// Its number: 21, 23, 24 or 41.
     ///
     /// ```
     /// assert_eq!(oddrafisk::WriteRefusal::ShortOutput.number(), 24);
@@ -163,6 +175,9 @@ impl WriteRefusal {
                 "the batch would be longer than 2147483647 bytes after its length"
             }
             WriteRefusal::ShortOutput => "the output is shorter than the batch",
+            WriteRefusal::BareMarker => {
+                "bare markers are withdrawn; `oddrafisk convert IN OUT` converts a stored log"
+            }
         }
     }
 }
@@ -237,6 +252,8 @@ mod tests {
             ("KEY_NOT_UTF8", Refusal::KeyNotUtf8.number()),
             ("UNKNOWN_CONTROL", Refusal::UnknownControl.number()),
             ("BYTES_LEFT", Refusal::BytesLeft.number()),
+            ("BARE_MARKER", Refusal::BareMarker.number()),
+            ("BARE_MARKER", WriteRefusal::BareMarker.number()),
             ("WRONG_ROW", WriteRefusal::WrongRow.number()),
             ("TOO_LONG", WriteRefusal::TooLong.number()),
             ("SHORT_OUTPUT", WriteRefusal::ShortOutput.number()),

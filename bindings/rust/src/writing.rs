@@ -85,17 +85,16 @@ impl BatchBuilder {
         }
     }
 
-    /// The same batch, records and all, for a log whose markers have that form.
+    /// The same batch, records and all, in that mode.
     ///
     /// A batch of records has the same bytes in every mode. A builder has one mode, whichever batch
-    /// it is at: [`clear`](BatchBuilder::clear) and [`next_batch`](BatchBuilder::next_batch) keep it,
-    /// and [`marker`](BatchBuilder::marker) writes by it. So what one builder writes to a log is read
-    /// in one mode; a log with markers of both forms is read to its end in neither.
+    /// it is at: [`clear`](BatchBuilder::clear) and [`next_batch`](BatchBuilder::next_batch) keep
+    /// it, and [`marker`](BatchBuilder::marker) writes by it.
     ///
     /// ```
     /// use oddrafisk::{BatchBuilder, ControlMode};
     ///
-    /// let mut builder = BatchBuilder::default().in_mode(ControlMode::Keyed);
+    /// let mut builder = BatchBuilder::default();
     /// let bytes = builder.push(1000, Some(b"cookie-1"), None, &[])?.to_vec()?;
     /// assert_eq!(builder.in_mode(ControlMode::Bare).to_vec()?, bytes);
     /// # Ok::<(), Box<dyn std::error::Error>>(())
@@ -104,18 +103,18 @@ impl BatchBuilder {
         BatchBuilder { mode, ..self }
     }
 
-    /// The marker in the form that this builder's log has.
+    /// The marker in this builder's mode.
     ///
     /// ```
-    /// use oddrafisk::{BatchBuilder, ControlMode, Fields, Log, Marker};
+    /// use oddrafisk::{BatchBuilder, Fields, Log, Marker};
     ///
     /// let producer = Fields { producer_id: 4012, is_transactional: true, ..Fields::default() };
-    /// let mut builder = BatchBuilder::new(producer).in_mode(ControlMode::Keyed);
+    /// let mut builder = BatchBuilder::new(producer);
     /// let mut log = Vec::new();
     /// builder.push(1000, Some(b"cookie-1"), Some(b"server-3"), &[])?.append_to(&mut log)?;
     /// builder.next_batch()?;
-    /// builder.marker(Marker::Commit).append_to(&builder.fields, &mut log);
-    /// assert!(Log::new(&log).in_mode(ControlMode::Keyed).all(|batch| batch.is_ok()));
+    /// builder.marker(Marker::Commit).append_to(&builder.fields, &mut log)?;
+    /// assert!(Log::new(&log).all(|batch| batch.is_ok()));
     /// # Ok::<(), Box<dyn std::error::Error>>(())
     /// ```
     pub fn marker(&self, marker: Marker) -> MarkerBuilder {
@@ -388,15 +387,18 @@ impl BatchBuilder {
     }
 }
 
-/// Writing the batch that ends a transaction, in bare form; [`in_mode`](Marker::in_mode) has others.
+/// Writing the batch that ends a transaction: a keyed marker, as brokers write it but for the
+/// value. [`in_mode`](Marker::in_mode) names a mode.
 impl Marker {
-    /// This marker in the form that the mode has.
+    /// This marker in that mode. In the bare one it cannot be written.
     ///
     /// ```
-    /// use oddrafisk::{ControlMode, Marker};
+    /// use oddrafisk::{ControlMode, Marker, WriteRefusal};
     ///
-    /// assert_eq!(Marker::Commit.in_mode(ControlMode::Keyed).measure(), 72);
-    /// assert_eq!(Marker::Commit.in_mode(ControlMode::Bare).measure(), Marker::Commit.measure());
+    /// let keyed = Marker::Commit.in_mode(ControlMode::Keyed);
+    /// assert_eq!(keyed.measure(), Ok(Marker::Commit.measure()));
+    /// let bare = Marker::Commit.in_mode(ControlMode::Bare);
+    /// assert_eq!(bare.measure(), Err(WriteRefusal::BareMarker));
     /// ```
     pub fn in_mode(self, mode: ControlMode) -> MarkerBuilder {
         MarkerBuilder { marker: self, mode }
@@ -405,10 +407,10 @@ impl Marker {
     /// How many bytes the batch that ends a transaction with this marker has when it is written.
     ///
     /// ```
-    /// assert_eq!(oddrafisk::Marker::Commit.measure(), 65);
+    /// assert_eq!(oddrafisk::Marker::Commit.measure(), 72);
     /// ```
     pub fn measure(self) -> usize {
-        self.bare().measure()
+        self.keyed().measure().expect(NEVER_REFUSED)
     }
 
     /// Writes that batch to the start of the output and returns how many bytes it has. A refusal,
@@ -421,11 +423,11 @@ impl Marker {
     /// use oddrafisk::{Fields, Marker, WriteRefusal};
     ///
     /// let fields = Fields { producer_id: 4012, is_transactional: true, ..Fields::default() };
-    /// assert_eq!(Marker::Commit.write(&fields, &mut [0; 65]), Ok(65));
-    /// assert_eq!(Marker::Commit.write(&fields, &mut [0; 64]), Err(WriteRefusal::ShortOutput));
+    /// assert_eq!(Marker::Commit.write(&fields, &mut [0; 72]), Ok(72));
+    /// assert_eq!(Marker::Commit.write(&fields, &mut [0; 71]), Err(WriteRefusal::ShortOutput));
     /// ```
     pub fn write(self, fields: &Fields, output: &mut [u8]) -> Result<usize, WriteRefusal> {
-        self.bare().write(fields, output)
+        self.keyed().write(fields, output)
     }
 
     /// Writes that batch after what the log has, and returns how many bytes it has.
@@ -443,7 +445,7 @@ impl Marker {
     /// # Ok::<(), oddrafisk::ReadError>(())
     /// ```
     pub fn append_to(self, fields: &Fields, log: &mut Vec<u8>) -> usize {
-        self.bare().append_to(fields, log)
+        self.keyed().append_to(fields, log).expect(NEVER_REFUSED)
     }
 
     /// That batch as bytes of its own.
@@ -452,27 +454,32 @@ impl Marker {
     /// use oddrafisk::{Fields, Marker};
     ///
     /// let fields = Fields { producer_id: 4012, is_transactional: true, ..Fields::default() };
-    /// assert!(oddrafisk::is_canonical(&Marker::Abort.to_vec(&fields)));
+    /// let bytes = Marker::Commit.to_vec(&fields);
+    /// assert_eq!(bytes[61..], [0x14, 0, 0, 0, 8, 0, 0, 0, 1, 1, 0]);
+    /// assert!(oddrafisk::is_canonical(&bytes));
     /// ```
     pub fn to_vec(self, fields: &Fields) -> Vec<u8> {
-        self.bare().to_vec(fields)
+        self.keyed().to_vec(fields).expect(NEVER_REFUSED)
     }
 
-    fn bare(self) -> MarkerBuilder {
-        self.in_mode(ControlMode::default())
+    fn keyed(self) -> MarkerBuilder {
+        self.in_mode(ControlMode::Keyed)
     }
 }
 
-/// Writes the batch that ends a transaction with a [`Marker`] in one of its forms. It is made by
-/// [`Marker::in_mode`] or [`BatchBuilder::marker`].
+const NEVER_REFUSED: &str = "a keyed marker is never refused";
+
+/// Writes the batch that ends a transaction with a [`Marker`] in a mode. It is made by
+/// [`Marker::in_mode`] or [`BatchBuilder::marker`]. In the bare mode everything is refused, by
+/// [`BareMarker`](WriteRefusal::BareMarker).
 ///
 /// ```
 /// use oddrafisk::{is_canonical_in, ControlMode, Fields, Marker};
 ///
 /// let fields = Fields { producer_id: 4012, is_transactional: true, ..Fields::default() };
-/// let bytes = Marker::Commit.in_mode(ControlMode::Keyed).to_vec(&fields);
-/// assert_eq!(bytes[61..], [0x14, 0, 0, 0, 8, 0, 0, 0, 1, 1, 0]);
+/// let bytes = Marker::Commit.in_mode(ControlMode::Keyed).to_vec(&fields)?;
 /// assert!(is_canonical_in(ControlMode::Keyed, &bytes));
+/// # Ok::<(), oddrafisk::WriteRefusal>(())
 /// ```
 #[derive(Debug, Clone, Copy, PartialEq, Eq, Hash)]
 pub struct MarkerBuilder {
@@ -481,31 +488,32 @@ pub struct MarkerBuilder {
 }
 
 impl MarkerBuilder {
-    /// The same marker in the form of another mode.
+    /// The same marker in another mode.
     ///
     /// ```
     /// use oddrafisk::{ControlMode, Marker};
     ///
-    /// let marker = Marker::Abort.in_mode(ControlMode::Keyed);
-    /// assert_eq!(marker.in_mode(ControlMode::Bare).measure(), 65);
+    /// let marker = Marker::Abort.in_mode(ControlMode::Bare);
+    /// assert_eq!(marker.in_mode(ControlMode::Keyed).measure(), Ok(72));
     /// ```
     pub fn in_mode(self, mode: ControlMode) -> Self {
         MarkerBuilder { mode, ..self }
     }
 
-    /// As [`Marker::measure`], in its own form.
+    /// As [`Marker::measure`], in its own mode.
     ///
     /// ```
-    /// use oddrafisk::{ControlMode, Marker};
+    /// use oddrafisk::{ControlMode, Marker, WriteRefusal};
     ///
-    /// assert_eq!(Marker::Commit.in_mode(ControlMode::Keyed).measure(), 72);
+    /// assert_eq!(Marker::Commit.in_mode(ControlMode::Keyed).measure(), Ok(72));
+    /// let bare = Marker::Commit.in_mode(ControlMode::Bare);
+    /// assert_eq!(bare.measure(), Err(WriteRefusal::BareMarker));
     /// ```
-    pub fn measure(self) -> usize {
-        let asked = self.asked(&Fields::default());
-        asked.measure().expect(NEVER_REFUSED)
+    pub fn measure(self) -> Result<usize, WriteRefusal> {
+        self.asked(&Fields::default()).measure()
     }
 
-    /// As [`Marker::write`], in its own form.
+    /// As [`Marker::write`], in its own mode.
     ///
     /// ```
     /// use oddrafisk::{ControlMode, Fields, Marker, WriteRefusal};
@@ -519,29 +527,30 @@ impl MarkerBuilder {
         self.asked(fields).write(output)
     }
 
-    /// As [`Marker::append_to`], in its own form.
+    /// As [`Marker::append_to`], in its own mode. A refusal changes nothing.
     ///
     /// ```
     /// use oddrafisk::{ControlMode, Fields, Marker};
     ///
     /// let fields = Fields { producer_id: 4012, is_transactional: true, ..Fields::default() };
     /// let mut log = Vec::new();
-    /// assert_eq!(Marker::Commit.in_mode(ControlMode::Keyed).append_to(&fields, &mut log), 72);
+    /// assert_eq!(Marker::Commit.in_mode(ControlMode::Keyed).append_to(&fields, &mut log), Ok(72));
     /// ```
-    pub fn append_to(self, fields: &Fields, log: &mut Vec<u8>) -> usize {
-        self.asked(fields).append_to(log).expect(NEVER_REFUSED)
+    pub fn append_to(self, fields: &Fields, log: &mut Vec<u8>) -> Result<usize, WriteRefusal> {
+        self.asked(fields).append_to(log)
     }
 
-    /// As [`Marker::to_vec`], in its own form.
+    /// As [`Marker::to_vec`], in its own mode.
     ///
     /// ```
     /// use oddrafisk::{ControlMode, Fields, Marker};
     ///
     /// let fields = Fields { producer_id: 4012, is_transactional: true, ..Fields::default() };
-    /// assert_eq!(Marker::Abort.in_mode(ControlMode::Keyed).to_vec(&fields).len(), 72);
+    /// let marker = Marker::Abort.in_mode(ControlMode::Keyed);
+    /// assert_eq!(marker.to_vec(&fields), Ok(Marker::Abort.to_vec(&fields)));
     /// ```
-    pub fn to_vec(self, fields: &Fields) -> Vec<u8> {
-        self.asked(fields).to_vec().expect(NEVER_REFUSED)
+    pub fn to_vec(self, fields: &Fields) -> Result<Vec<u8>, WriteRefusal> {
+        self.asked(fields).to_vec()
     }
 
     fn asked(self, fields: &Fields) -> Asked<'static> {
@@ -554,8 +563,6 @@ impl MarkerBuilder {
         }
     }
 }
-
-const NEVER_REFUSED: &str = "a marker is never refused";
 
 /// The one codec that is written.
 const NO_CODEC: i64 = 0;
@@ -632,7 +639,7 @@ mod tests {
         let source = vec![0; 1 << 20];
         let records = [[0, 0, 0, -1, 0, 1 << 20, 0, 0]; 2048];
         let asked = |count: usize| Asked {
-            mode: ControlMode::Bare,
+            mode: ControlMode::Keyed,
             entries: Fields::default().to_entries(Kind::Records, count),
             records: &records,
             headers: &[],

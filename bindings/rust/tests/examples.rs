@@ -5,7 +5,7 @@ use std::path::{Path, PathBuf};
 use std::process::{Command, Output};
 use std::{env, fs};
 
-use oddrafisk::{BatchBuilder, ControlMode, Fields, Kind, Log, Marker, NewRecord};
+use oddrafisk::{BatchBuilder, Fields, Kind, Log, Marker, NewRecord};
 
 fn program(name: &str) -> Command {
     let test = env::current_exe().unwrap();
@@ -107,7 +107,7 @@ fn sample_is_summed_up() {
     let summary = "batches 12\nrecords 24\nrecords without a cookie 0\nrecords aborted 2\n\
                    records undecided 0\ncookies pinned 8\ncookies withdrawn 2\n\
                    rail-node-01 2\nrail-node-02 1\nrail-node-04 1\nrail-node-05 2\nrail-node-06 2\n\
-                   end at 1888\n";
+                   end at 1902\n";
     assert_eq!(balancer(&sample), (summary.to_string(), true));
 }
 
@@ -304,63 +304,76 @@ fn place_in_the_log_decides_and_not_the_commit() {
     );
 }
 
-/// A log of a broker: what the markers commit is taken with `--keyed`, and stopped at without.
+/// A commit and an abort as brokers write them, with a value of six bytes after the key: their
+/// checksums were worked out apart from the library.
+fn broker_marker(base_offset: u8, checksum: [u8; 4], control_type: u8) -> Vec<u8> {
+    let mut bytes = vec![0; 78];
+    bytes[7] = base_offset;
+    bytes[11] = 66; // the length
+    bytes[16] = 2; // the magic byte
+    bytes[17..21].copy_from_slice(&checksum);
+    bytes[22] = 0x30; // a control batch of a transaction
+    bytes[50] = 7; // the producer
+    bytes[60] = 1; // the count
+    bytes[61] = 0x20; // the length of its record
+    bytes[65] = 8; // that of its key
+    bytes[69] = control_type;
+    bytes[70] = 12; // that of its value
+    bytes[76] = 5;
+    bytes
+}
+
+/// A log of a broker: what its markers commit is taken.
 #[test]
 fn markers_of_brokers_are_taken() {
-    let at = |base_offset| Fields {
-        base_offset,
-        producer_id: 7,
-        is_transactional: true,
-        ..Fields::default()
-    };
     let mut bytes = Vec::new();
-    for (offset, server, marker) in [
-        (0, &b"aborted"[..], Marker::Abort),
-        (2, b"committed", Marker::Commit),
+    for (offset, server, checksum, control_type) in [
+        (0, &b"aborted"[..], [0x34, 0xB8, 0x47, 0x5B], 0),
+        (2, b"committed", [0xC0, 0x86, 0x91, 0x13], 1),
     ] {
-        let mut builder = BatchBuilder::new(at(offset)).in_mode(ControlMode::Keyed);
+        let mut builder = BatchBuilder::new(Fields {
+            base_offset: offset.into(),
+            producer_id: 7,
+            is_transactional: true,
+            ..Fields::default()
+        });
         builder.push(0, Some(b"cookie"), Some(server), &[]).unwrap();
         builder.append_to(&mut bytes).unwrap();
-        let marker = builder.marker(marker);
-        marker.append_to(&at(offset + 1), &mut bytes);
+        bytes.extend(broker_marker(offset + 1, checksum, control_type));
     }
-    let file = scratch("broker.log");
-    fs::write(&file, &bytes).unwrap();
-    let keyed = |options: &[&str]| {
-        let mut command = program("balancer");
-        let ended = command.arg(&file).args(options).output().unwrap();
-        (
-            String::from_utf8(ended.stdout).unwrap(),
-            ended.status.success(),
-        )
-    };
-    for options in [
-        &["--keyed"][..],
-        &["--skip", "--keyed"],
-        &["--keyed", "--skip"],
-    ] {
-        let (said, success) = keyed(options);
-        let due = "records aborted 1\nrecords undecided 0\ncookies pinned 1\ncookies withdrawn 0\n\
-                   committed 1\nend at ";
-        assert!(success && said.contains(due), "{said}");
-    }
-    let (said, success) = keyed(&[]);
-    assert!(
-        !success && said.ends_with("the control marker is unknown (number 12)\n"),
-        "{said}"
-    );
-    let ended = program("balancer")
-        .arg(&file)
-        .arg("--key")
-        .output()
-        .unwrap();
-    assert_eq!(ended.status.code(), Some(2));
+    let (said, success) = balancer_on(&bytes, "broker.log");
+    let due = "records aborted 1\nrecords undecided 0\ncookies pinned 1\ncookies withdrawn 0\n\
+               committed 1\nend at ";
+    assert!(success && said.contains(due), "{said}");
+}
+
+/// The bytes of document 01's bare commit, all other fields 0, after a batch of a transaction.
+#[test]
+fn balancer_stops_at_a_bare_marker() {
+    let mut bytes = BatchBuilder::default().to_vec().unwrap();
+    let mut marker = vec![0; 65];
+    marker[11] = 53;
+    marker[16] = 2;
+    marker[17..21].copy_from_slice(&[0xBC, 0x2B, 0x21, 0x21]);
+    marker[22] = 0x20;
+    marker[60] = 1;
+    marker[64] = 1;
+    bytes.extend(marker);
+    let (said, success) = balancer_on(&bytes, "bare.log");
+    assert!(!success && said.ends_with(" (number 41)\n"), "{said}");
+    let stop = "\nstop at 61: bare markers are withdrawn; `oddrafisk convert IN OUT` ";
+    assert!(said.contains(stop), "{said}");
 }
 
 #[test]
 fn balancer_needs_a_file() {
     for mut command in [program("balancer"), program("write_log")] {
         assert_eq!(command.output().unwrap().status.code(), Some(2));
+    }
+    for options in [&["--keyed"][..], &["--skip", "--skip"]] {
+        let mut command = program("balancer");
+        let ended = command.arg(scratch("any.log")).args(options).output();
+        assert_eq!(ended.unwrap().status.code(), Some(2), "{options:?}");
     }
     let missing = program("balancer")
         .arg(scratch("missing.log"))

@@ -1,8 +1,8 @@
-//! Both forms of markers: what reads and writes them in which mode, by bytes that are put down here.
+//! Markers: what reads and writes them in which mode, by bytes that are put down here.
 
 mod common;
 
-use common::{batch_with_body, keyed_marker, marker, one_record, repaired, ZERO};
+use common::{bare_marker, batch_with_body, marker, one_record, repaired, ZERO};
 use oddrafisk::{
     check, check_in, framed, is_canonical, is_canonical_in, Batch, BatchBuilder, ControlMode,
     Fields, Kind, Log, LogError, Marker, NewRecord, Outline, ReadError, Reader, Refusal,
@@ -43,20 +43,25 @@ fn control(count: i32, body: &[u8]) -> Vec<u8> {
 /// A marker and whether it is canonical, or the refusal.
 type Due = Result<(Marker, bool), Refusal>;
 
+const BARE: Due = Err(Refusal::BareMarker);
 const ABORT: Due = Ok((Marker::Abort, true));
 const COMMIT: Due = Ok((Marker::Commit, true));
 const LONGER_ABORT: Due = Ok((Marker::Abort, false));
 const LONGER_COMMIT: Due = Ok((Marker::Commit, false));
 const UNKNOWN: Due = Err(Refusal::UnknownControl);
 
-/// The count and the body of a control batch, and what it is where markers are bare and where they
-/// are keyed.
+/// The count and the body of a control batch, and what it is in the bare mode and in the keyed one.
 #[rustfmt::skip]
-const CONTROLS: [(i32, &[u8], Due, Due); 20] = [
+const CONTROLS: [(i32, &[u8], Due, Due); 24] = [
     (1, &[0x14, 0, 0, 0, 8, 0, 0, 0, 0, 1, 0], UNKNOWN, ABORT),
     (1, &[0x14, 0, 0, 0, 8, 0, 0, 0, 1, 1, 0], UNKNOWN, COMMIT),
-    (1, &[0, 0, 0, 0], ABORT, Err(Refusal::PastEnd)),
-    (1, &[0, 0, 0, 1], COMMIT, Err(Refusal::PastEnd)),
+    // Bare markers, and what is none for a byte too many, too few or wrong.
+    (1, &[0, 0, 0, 0], BARE, BARE),
+    (1, &[0, 0, 0, 1], BARE, BARE),
+    (1, &[0, 0, 0, 0, 0], Err(Refusal::BytesLeft), Err(Refusal::PastEnd)),
+    (1, &[0, 0, 0], Err(Refusal::PastEnd), Err(Refusal::PastEnd)),
+    (1, &[0, 1, 0, 0], UNKNOWN, Err(Refusal::PastEnd)),
+    (1, &[0, 0, 1, 0], UNKNOWN, Err(Refusal::PastEnd)),
     // As brokers write it, with a value of six bytes.
     (1, &[0x20, 0, 0, 0, 8, 0, 0, 0, 0, 12, 0, 0, 0, 0, 0, 5, 0], UNKNOWN, LONGER_ABORT),
     (1, &[0x20, 0, 0, 0, 8, 0, 0, 0, 1, 12, 0, 0, 0, 0, 0, 0, 0], UNKNOWN, LONGER_COMMIT),
@@ -115,81 +120,122 @@ fn every_control_batch_has_its_answer_in_both_modes() {
         let bytes = control(count, body);
         hold(Bare, &bytes, bare);
         hold(Keyed, &bytes, keyed);
-        assert_eq!(check(&bytes), check_in(Bare, &bytes));
-        assert_eq!(is_canonical(&bytes), is_canonical_in(Bare, &bytes));
+        assert_eq!(check(&bytes), check_in(Keyed, &bytes));
+        assert_eq!(is_canonical(&bytes), is_canonical_in(Keyed, &bytes));
         assert_eq!(framed(&bytes), Ok(bytes.len()));
         let read = Batch::read(&bytes).map(|batch| batch.kind());
         assert_eq!(read, check(&bytes).map(|outline| outline.kind));
     }
 }
 
+/// Whatever else is wrong with a bare marker has its own number, in either mode.
 #[test]
-fn bare_is_the_default() {
-    assert_eq!(ControlMode::default(), Bare);
+fn faults_come_before_the_bare_marker() {
+    let altered = |place: usize, byte: u8| {
+        let mut bytes = control(1, &[0, 0, 0, 1]);
+        bytes[place] = byte;
+        bytes
+    };
+    let cases = [
+        (Refusal::LengthTooSmall, altered(11, 8)),
+        (Refusal::UnknownMagic, altered(16, 1)),
+        (Refusal::ChecksumDiffers, altered(64, 0)),
+        (Refusal::UnknownCodec, repaired(altered(22, 0x35))),
+        (Refusal::Compressed, repaired(altered(22, 0x31))),
+        (Refusal::WrongCount, repaired(altered(60, 2))),
+    ];
+    for (refusal, bytes) in cases {
+        for mode in MODES {
+            hold(mode, &bytes, Err(refusal));
+        }
+    }
+    // Attributes without a meaning are no fault.
+    for mode in MODES {
+        hold(mode, &repaired(altered(21, 0x80)), BARE);
+        hold(mode, &repaired(altered(22, 0xF0)), BARE);
+    }
+}
+
+#[test]
+fn keyed_is_the_default() {
+    assert_eq!(ControlMode::default(), Keyed);
+    let bytes = marker(1);
+    let kind = Kind::Marker(Marker::Commit);
+    assert_eq!(Reader::new().read(&bytes).unwrap().kind(), kind);
+    assert_eq!(Reader::default().read(&bytes).unwrap().kind(), kind);
+    assert_eq!(Batch::read(&bytes).unwrap().kind(), kind);
+    assert_eq!(Log::new(&bytes).next().unwrap().unwrap().kind(), kind);
+    let builder = BatchBuilder::default();
+    assert_eq!(builder.marker(Marker::Abort).measure(), Ok(72));
     assert_eq!(
-        Reader::new().read(&keyed_marker(1)).unwrap_err().number(),
-        12
+        BatchBuilder::new(ZERO).marker(Marker::Commit).to_vec(&ZERO),
+        Ok(bytes)
     );
     assert_eq!(
-        Log::new(&keyed_marker(1))
-            .next()
-            .unwrap()
-            .unwrap_err()
-            .reason
-            .number(),
-        12
-    );
-    assert_eq!(BatchBuilder::default().marker(Marker::Abort).measure(), 65);
-    assert_eq!(
-        Marker::Abort.in_mode(Bare).measure(),
-        Marker::Abort.measure()
+        Marker::Abort.in_mode(Keyed).measure(),
+        Ok(Marker::Abort.measure())
     );
 }
 
 #[test]
-fn markers_have_the_bytes_of_their_form() {
+fn markers_have_the_bytes_of_the_table() {
     for (kind, control_type) in [(Marker::Abort, 0), (Marker::Commit, 1)] {
-        for (mode, bytes) in [
-            (Bare, marker(control_type)),
-            (Keyed, keyed_marker(control_type)),
-        ] {
-            let written = kind.in_mode(mode);
-            assert_eq!(written.measure(), bytes.len());
-            assert_eq!(written.to_vec(&ZERO), bytes);
-            let mut log = vec![0xAA];
-            assert_eq!(written.append_to(&ZERO, &mut log), bytes.len());
-            assert_eq!(log, [&[0xAA], &bytes[..]].concat());
-            let mut output = [0xAA; 75];
-            assert_eq!(written.write(&ZERO, &mut output), Ok(bytes.len()));
-            assert_eq!(output[..bytes.len()], bytes);
-            assert!(output[bytes.len()..].iter().all(|byte| *byte == 0xAA));
-            let mut short = vec![0xAA; bytes.len() - 1];
-            assert_eq!(
-                written.write(&ZERO, &mut short),
-                Err(WriteRefusal::ShortOutput)
-            );
-            assert!(short.iter().all(|byte| *byte == 0xAA));
-        }
+        let (written, bytes) = (kind.in_mode(Keyed), marker(control_type));
+        assert_eq!(written.measure(), Ok(72));
+        assert_eq!(written.to_vec(&ZERO).unwrap(), bytes);
+        let mut log = vec![0xAA];
+        assert_eq!(written.append_to(&ZERO, &mut log), Ok(72));
+        assert_eq!(log, [&[0xAA], &bytes[..]].concat());
+        let mut output = [0xAA; 75];
+        assert_eq!(written.write(&ZERO, &mut output), Ok(72));
+        assert_eq!(output[..72], bytes);
+        assert_eq!(output[72..], [0xAA; 3]);
+        let mut short = [0xAA; 71];
+        assert_eq!(
+            written.write(&ZERO, &mut short),
+            Err(WriteRefusal::ShortOutput)
+        );
+        assert_eq!(short, [0xAA; 71]);
     }
-    let checksum = &Marker::Abort.in_mode(Keyed).to_vec(&ZERO)[17..21];
+    let checksum = &Marker::Abort.to_vec(&ZERO)[17..21];
     assert_eq!(checksum, [0xEC, 0xE5, 0x1F, 0xAE]);
 }
 
 #[test]
-fn markers_read_back_with_their_fields() {
-    for mode in MODES {
-        for marker in [Marker::Abort, Marker::Commit] {
-            let bytes = marker.in_mode(mode).to_vec(&FIELDS);
-            hold(mode, &bytes, Ok((marker, true)));
-            assert_eq!(
-                marker
-                    .in_mode(Bare)
-                    .in_mode(Keyed)
-                    .in_mode(mode)
-                    .to_vec(&FIELDS),
-                bytes
-            );
+fn bare_mode_writes_no_marker() {
+    for marker in [Marker::Abort, Marker::Commit] {
+        let builder = BatchBuilder::default().in_mode(Bare);
+        for written in [
+            marker.in_mode(Bare),
+            marker.in_mode(Keyed).in_mode(Bare),
+            builder.marker(marker),
+        ] {
+            let refusal = WriteRefusal::BareMarker;
+            assert_eq!(refusal.number(), 41);
+            assert_eq!(written.measure(), Err(refusal));
+            assert_eq!(written.to_vec(&FIELDS), Err(refusal));
+            let mut log = vec![0xAA];
+            assert_eq!(written.append_to(&FIELDS, &mut log), Err(refusal));
+            let mut output = [0xAA; 75];
+            assert_eq!(written.write(&FIELDS, &mut output), Err(refusal));
+            assert_eq!(written.write(&FIELDS, &mut []), Err(refusal));
+            assert_eq!((log, output), (vec![0xAA], [0xAA; 75]));
         }
+    }
+    let shown = WriteRefusal::BareMarker.to_string();
+    assert_eq!(shown, Refusal::BareMarker.to_string());
+    assert!(shown.contains("`oddrafisk convert IN OUT`"), "{shown}");
+    assert!(shown.ends_with(" (number 41)"), "{shown}");
+}
+
+#[test]
+fn markers_read_back_with_their_fields() {
+    for marker in [Marker::Abort, Marker::Commit] {
+        let bytes = marker.to_vec(&FIELDS);
+        hold(Keyed, &bytes, Ok((marker, true)));
+        hold(Bare, &bytes, UNKNOWN);
+        let written = marker.in_mode(Bare).in_mode(Keyed);
+        assert_eq!(written.to_vec(&FIELDS), Ok(bytes));
     }
 }
 
@@ -204,7 +250,7 @@ fn records_are_the_same_in_both_modes() {
         headers: &[("zone", Some(b"norden"))],
     });
     let bytes = builder.to_vec().unwrap();
-    let builder = builder.in_mode(Keyed);
+    let builder = builder.in_mode(Bare);
     assert_eq!(builder.len(), 1);
     assert_eq!(builder.to_vec().unwrap(), bytes);
     assert_eq!(builder.measure(), Ok(bytes.len()));
@@ -225,7 +271,7 @@ fn records_are_the_same_in_both_modes() {
 /// A builder has one mode, also after the batches that it has written.
 #[test]
 fn builder_keeps_its_mode() {
-    for (mode, marker_bytes) in [(Bare, 65), (Keyed, 72)] {
+    for (mode, due) in [(Bare, Err(WriteRefusal::BareMarker)), (Keyed, Ok(72))] {
         let mut builder = BatchBuilder::new(Fields {
             base_offset: 70,
             ..FIELDS
@@ -235,51 +281,43 @@ fn builder_keeps_its_mode() {
         builder.push(1000, Some(b"a"), None, &[]).unwrap();
         builder.append_to(&mut log).unwrap();
         builder.next_batch().unwrap();
-        assert_eq!(
-            builder
-                .marker(Marker::Commit)
-                .append_to(&builder.fields, &mut log),
-            marker_bytes
-        );
+        let marker = builder.marker(Marker::Commit);
+        assert_eq!(marker.append_to(&builder.fields, &mut log), due);
         builder.clear();
-        assert_eq!(builder.marker(Marker::Abort).measure(), marker_bytes);
+        assert_eq!(builder.marker(Marker::Abort).measure(), due);
         let batches: Vec<_> = Log::new(&log).in_mode(mode).map(Result::unwrap).collect();
         let told: Vec<_> = batches
             .iter()
             .map(|b| (b.fields().base_offset, b.kind()))
             .collect();
-        assert_eq!(
-            told,
-            [(70, Kind::Records), (71, Kind::Marker(Marker::Commit))]
-        );
+        let all = [(70, Kind::Records), (71, Kind::Marker(Marker::Commit))];
+        assert_eq!(told, all[..1 + usize::from(due.is_ok())]);
     }
 }
 
 /// The mode counts from where the log is, and what has stopped stays so.
 #[test]
 fn log_goes_on_in_another_mode() {
-    let bytes = [marker(1), keyed_marker(0), marker(0)].concat();
+    let bytes = [one_record(), marker(0), bare_marker(1)].concat();
     for mode in MODES {
         assert!(Log::new(&bytes).in_mode(mode).any(|batch| batch.is_err()));
     }
-    let mut log = Log::new(&bytes);
-    assert_eq!(
-        log.next().unwrap().unwrap().kind(),
-        Kind::Marker(Marker::Commit)
-    );
+    let mut log = Log::new(&bytes).in_mode(Bare);
+    assert_eq!(log.next().unwrap().unwrap().kind(), Kind::Records);
     let mut log = log.in_mode(Keyed);
     assert_eq!(
         (log.place(), log.next().unwrap().unwrap().kind()),
-        (65, Kind::Marker(Marker::Abort))
+        (69, Kind::Marker(Marker::Abort))
     );
     let error = LogError {
-        place: 137,
-        reason: Refusal::PastEnd.into(),
+        place: 141,
+        reason: Refusal::BareMarker.into(),
     };
     assert_eq!(log.next().unwrap().unwrap_err(), error);
     let mut log = log.in_mode(Bare);
     assert!(log.next().is_none());
-    assert_eq!(log.place(), 137);
+    assert_eq!((log.place(), log.pass_over()), (141, Ok(65)));
+    assert_eq!(log.place(), bytes.len());
 }
 
 /// A control batch needs no rows: what the reader has shown before is not shown again.
@@ -290,9 +328,9 @@ fn markers_after_records_have_none() {
         .push(0, Some(b"a"), Some(b"1"), &[("zone", Some(b"north"))])
         .unwrap();
     let records = builder.to_vec().unwrap();
-    let mut reader = Reader::new().in_mode(Keyed);
+    let mut reader = Reader::new();
     assert_eq!(reader.read(&records).unwrap().records().len(), 1);
-    let bytes = keyed_marker(1);
+    let bytes = marker(1);
     let batch = reader.read(&bytes).unwrap();
     assert_eq!(
         (batch.kind(), batch.records().len()),

@@ -4,7 +4,7 @@ mod common;
 
 use std::collections::HashMap;
 
-use common::{batch_with_body, marker, one_record, repaired};
+use common::{bare_marker, batch_with_body, marker, one_record, repaired};
 use oddrafisk::{
     check, crc32c, framed, is_canonical, record_time, Batch, BatchBuilder, Fields, Kind, Log,
     LogError, Marker, NewRecord, ReadError, Reader, Refusal, TimestampType,
@@ -95,7 +95,7 @@ fn log_ends_with_the_first_error() {
 }
 
 /// For each refusal a smallest batch that has this fault alone; the checksum is right but for 4.
-fn refused() -> [(Refusal, u32, Vec<u8>); 12] {
+fn refused() -> [(Refusal, u32, Vec<u8>); 13] {
     let edited = |place: usize, value: u8| {
         let mut bytes = one_record();
         bytes[place] = value;
@@ -124,6 +124,7 @@ fn refused() -> [(Refusal, u32, Vec<u8>); 12] {
         (Refusal::KeyNotUtf8, 11, with_body(1, &header_key_c0)),
         (Refusal::UnknownControl, 12, marker(2)),
         (Refusal::BytesLeft, 13, with_body(0, &[0])),
+        (Refusal::BareMarker, 41, bare_marker(1)),
     ]
 }
 
@@ -150,7 +151,7 @@ fn refusals_have_words_of_their_own() {
         .collect();
     words.sort();
     words.dedup();
-    assert_eq!(words.len(), 12);
+    assert_eq!(words.len(), 13);
 }
 
 #[test]
@@ -168,7 +169,7 @@ fn check_tells_all_but_the_records() {
     assert_eq!(outline.kind, Kind::Marker(Marker::Commit));
     assert_eq!(
         (outline.records, outline.headers, outline.bytes),
-        (0, 0, 65)
+        (0, 0, 72)
     );
     assert_eq!(check(&marker(0)).unwrap().kind, Kind::Marker(Marker::Abort));
 }
@@ -276,7 +277,12 @@ fn batches_go_to_other_threads() {
 /// By document 01's number 1: 12 bytes tell the length, 17 the magic byte.
 #[test]
 fn length_is_told_by_17_bytes() {
-    for bytes in [one_record(), marker(1), batch_with_body(0, 0, &[])] {
+    for bytes in [
+        one_record(),
+        marker(1),
+        bare_marker(1),
+        batch_with_body(0, 0, &[]),
+    ] {
         for count in 0..=bytes.len() {
             let expected = match count {
                 0..12 => Err(ReadError::MoreBytes { needed: 12 }),

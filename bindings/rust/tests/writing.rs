@@ -33,7 +33,7 @@ fn bytes_are_those_of_the_table() {
     assert_eq!(builder.record(record).to_vec().unwrap(), one_record());
     for (kind, bytes) in [(Marker::Abort, marker(0)), (Marker::Commit, marker(1))] {
         let mut log = vec![0xAA];
-        assert_eq!(kind.append_to(&ZERO, &mut log), 65);
+        assert_eq!(kind.append_to(&ZERO, &mut log), 72);
         assert_eq!(log, [vec![0xAA], bytes].concat());
     }
 }
@@ -457,13 +457,13 @@ fn no_batch_follows_the_last_offset() {
 #[test]
 fn markers_are_written_as_batches_are() {
     for (kind, bytes) in [(Marker::Abort, marker(0)), (Marker::Commit, marker(1))] {
-        assert_eq!(kind.measure(), 65);
+        assert_eq!(kind.measure(), 72);
         assert_eq!(kind.to_vec(&ZERO), bytes);
-        let mut output = [0xAA; 68];
-        assert_eq!(kind.write(&ZERO, &mut output), Ok(65));
+        let mut output = [0xAA; 75];
+        assert_eq!(kind.write(&ZERO, &mut output), Ok(72));
         assert_eq!(output.to_vec(), [bytes, vec![0xAA; 3]].concat());
-        let mut short = [0xAA; 64];
+        let mut short = [0xAA; 71];
         let refusal = kind.write(&ZERO, &mut short).unwrap_err();
-        assert_eq!((refusal, short), (WriteRefusal::ShortOutput, [0xAA; 64]));
+        assert_eq!((refusal, short), (WriteRefusal::ShortOutput, [0xAA; 71]));
     }
 }

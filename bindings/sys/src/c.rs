@@ -49,6 +49,14 @@ extern "C" {
 
     pub fn oddrafisk_is_canonical(mode: u32, bytes: *const u8, bytes_count: usize) -> u32;
 
+    pub fn oddrafisk_convert(
+        bytes: *const u8,
+        bytes_count: usize,
+        output: *mut u8,
+        output_count: usize,
+        answer: *mut i64,
+    ) -> u32;
+
     pub fn oddrafisk_record_time(
         timestamp_type: i64,
         first_timestamp: i64,

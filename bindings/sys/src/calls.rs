@@ -16,10 +16,10 @@ use crate::{c, Entries, VERSION};
 /// What the bytes begin with, by `oddrafisk_check`.
 ///
 /// ```
-/// use oddrafisk_sys::{check, BARE, BYTES, ENTRIES, MORE_BYTES};
+/// use oddrafisk_sys::{check, BYTES, ENTRIES, KEYED, MORE_BYTES};
 ///
 /// let mut answer = [0; ENTRIES];
-/// assert_eq!(check(BARE, &[], &mut answer), MORE_BYTES);
+/// assert_eq!(check(KEYED, &[], &mut answer), MORE_BYTES);
 /// assert_eq!(answer[BYTES], 12);
 /// ```
 #[inline]
@@ -71,10 +71,10 @@ pub fn read(
 ///
 /// let (mut batch, mut answer) = ([0; 16], [0]);
 /// batch[KIND] = KIND_ABORT;
-/// assert_eq!(measure(BARE, &batch, 0, &[], &[], &[], &mut answer), 0);
-/// assert_eq!(answer, [65]);
 /// assert_eq!(measure(KEYED, &batch, 0, &[], &[], &[], &mut answer), 0);
 /// assert_eq!(answer, [72]);
+/// assert_eq!(measure(BARE, &batch, 0, &[], &[], &[], &mut answer), 41);
+/// assert_eq!(answer, [0]);
 /// ```
 #[inline]
 pub fn measure(
@@ -107,10 +107,10 @@ pub fn measure(
 /// Writes a batch to the start of the output, by `oddrafisk_write`.
 ///
 /// ```
-/// use oddrafisk_sys::{write, BARE};
+/// use oddrafisk_sys::{write, KEYED};
 ///
 /// let (mut output, mut answer) = ([0; 60], [0]);
-/// assert_eq!(write(BARE, &[0; 16], 0, &[], &[], &[], &mut output, &mut answer), 24);
+/// assert_eq!(write(KEYED, &[0; 16], 0, &[], &[], &[], &mut output, &mut answer), 24);
 /// ```
 #[inline]
 #[allow(clippy::too_many_arguments)]
@@ -148,13 +148,42 @@ pub fn write(
 /// by `oddrafisk_is_canonical`.
 ///
 /// ```
-/// assert_eq!(oddrafisk_sys::is_canonical(oddrafisk_sys::BARE, &[]), 0);
+/// assert_eq!(oddrafisk_sys::is_canonical(oddrafisk_sys::KEYED, &[]), 0);
 /// ```
 #[inline]
 pub fn is_canonical(mode: u32, bytes: &[u8]) -> u32 {
     hold_version();
     // SAFETY: the slice is lent with its own length.
     unsafe { c::oddrafisk_is_canonical(mode, bytes.as_ptr(), bytes.len()) }
+}
+
+/// Converts the batch that the bytes begin with, by `oddrafisk_convert`: a bare marker becomes a
+/// keyed one in the output, and what is accepted in the keyed mode is copied to it. The answer is
+/// how many bytes were taken, or are needed, and how many were given.
+///
+/// ```
+/// use oddrafisk_sys::{convert, write, ACCEPTED, KEYED, MORE_BYTES};
+///
+/// let (mut batch, mut output, mut answer) = ([0; 61], [0; 68], [0; 2]);
+/// write(KEYED, &[0; 16], 0, &[], &[], &[], &mut batch, &mut [0]);
+/// assert_eq!(convert(&batch, &mut output, &mut answer), ACCEPTED);
+/// assert_eq!((answer, &output[..61]), ([61, 61], &batch[..]));
+/// assert_eq!(convert(&batch[..20], &mut output, &mut answer), MORE_BYTES);
+/// assert_eq!(answer, [61, 0]);
+/// ```
+#[inline]
+pub fn convert(bytes: &[u8], output: &mut [u8], answer: &mut [i64; 2]) -> u32 {
+    hold_version();
+    // SAFETY: each is lent as what it is, and each slice with its own length.
+    unsafe {
+        c::oddrafisk_convert(
+            bytes.as_ptr(),
+            bytes.len(),
+            output.as_mut_ptr(),
+            output.len(),
+            answer.as_mut_ptr(),
+        )
+    }
 }
 
 /// 1 and the time of a record, or 0 where there is none, by `oddrafisk_record_time`.
@@ -238,7 +267,7 @@ mod tests {
     }
 
     #[test]
-    #[should_panic(expected = "has the version 2999, and oddrafisk-sys is for 3000")]
+    #[should_panic(expected = "has the version 3999, and oddrafisk-sys is for 4000")]
     fn a_stale_archive_is_found() {
         hold(VERSION - 1);
     }

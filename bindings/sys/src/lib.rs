@@ -6,20 +6,22 @@ mod c;
 #[allow(unsafe_code)]
 mod calls;
 
-pub use calls::{check, crc32c, is_canonical, measure, read, record_time, version, write};
+pub use calls::{check, convert, crc32c, is_canonical, measure, read, record_time, version, write};
 
 #[cfg(not(target_pointer_width = "64"))]
 compile_error!("oddrafisk is for processors with 64-bit addresses");
 
-/// The version that this crate is made for, as [`version`] gives that of the archive: 0.3.0 is
-/// 3000.
-pub const VERSION: u32 = 3000;
+/// The version that this crate is made for, as [`version`] gives that of the archive: 0.4.0 is
+/// 4000.
+pub const VERSION: u32 = 4000;
 
-// The modes: which form the markers of control batches have. Every other number is the bare mode.
+// The modes: whether there are markers, which are keyed. Every other number is the bare mode.
 
-/// The mode of bare markers: four bytes alone after the fixed fields.
+/// The mode of batches of records alone: no control batch is read or written. Bare markers, after
+/// which it is called, are withdrawn, and [`convert`] makes keyed ones of them.
 pub const BARE: u32 = 0;
-/// The mode of keyed markers, as brokers write them: a record whose key begins with these bytes.
+/// The mode of keyed markers, as brokers write them: a record whose key begins with version and
+/// type.
 pub const KEYED: u32 = 1;
 
 // The places of a batch's entries.

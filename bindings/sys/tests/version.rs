@@ -10,23 +10,26 @@ use oddrafisk_sys as sys;
 const VARIABLE: &str = "ODDRAFISK_OTHER_VERSION";
 
 /// Each of them, on as little as it takes.
-const CALLS: [(&str, fn()); 7] = [
+const CALLS: [(&str, fn()); 8] = [
     ("check", || {
-        sys::check(sys::BARE, &[], &mut [0; sys::ENTRIES]);
+        sys::check(sys::KEYED, &[], &mut [0; sys::ENTRIES]);
     }),
     ("read", || {
-        sys::read(sys::BARE, &[], &mut [], &mut [], &mut [0; sys::ENTRIES]);
+        sys::read(sys::KEYED, &[], &mut [], &mut [], &mut [0; sys::ENTRIES]);
     }),
     ("measure", || {
         let batch = [0; sys::ENTRIES];
-        sys::measure(sys::BARE, &batch, 0, &[], &[], &[], &mut [0]);
+        sys::measure(sys::KEYED, &batch, 0, &[], &[], &[], &mut [0]);
     }),
     ("write", || {
         let batch = [0; sys::ENTRIES];
-        sys::write(sys::BARE, &batch, 0, &[], &[], &[], &mut [], &mut [0]);
+        sys::write(sys::KEYED, &batch, 0, &[], &[], &[], &mut [], &mut [0]);
     }),
     ("is_canonical", || {
-        sys::is_canonical(sys::BARE, &[]);
+        sys::is_canonical(sys::KEYED, &[]);
+    }),
+    ("convert", || {
+        sys::convert(&[], &mut [], &mut [0; 2]);
     }),
     ("record_time", || {
         sys::record_time(0, 0, 0, 0, &mut [0]);

@@ -159,8 +159,8 @@ fn fields_come_before_the_records() {
         ),
         "7\t1731657600017\tnull\t\"A\"\n".to_string(),
         fields_line(69, -5, &format!("{append} records, {counts} 61")),
-        fields_line(130, 8, &format!("{create} abort, {counts} 65")),
-        fields_line(195, 9, &format!("{create} commit, {counts} 65")),
+        fields_line(130, 8, &format!("{create} abort, {counts} 72")),
+        fields_line(202, 9, &format!("{create} commit, {counts} 72")),
     ];
     assert_eq!(ended.output, due.concat());
     assert_eq!((ended.status, ended.errors.as_str()), (0, ""));
@@ -178,8 +178,8 @@ fn fields_count_the_headers() {
         .collect();
     let due = [
         "records, records 3, headers 3, bytes 150",
-        "abort, records 0, headers 0, bytes 65",
-        "commit, records 0, headers 0, bytes 65",
+        "abort, records 0, headers 0, bytes 72",
+        "commit, records 0, headers 0, bytes 72",
         "records, records 2, headers 0, bytes 79",
     ];
     assert_eq!(counts, due);

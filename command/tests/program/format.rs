@@ -137,8 +137,18 @@ pub fn one_record() -> Vec<u8> {
     Head::default().with_body(1, &[0x0E, 0, 0, 0, 1, 2, 0x41, 0])
 }
 
-/// A control batch with document 01's bare marker: 0 is an abort, 1 a commit.
+/// A control batch with the shortest marker: 0 is an abort, 1 a commit.
 pub fn marker(base_offset: i64, control_type: u8) -> Vec<u8> {
+    let head = Head {
+        base_offset,
+        attributes: 0x20,
+        ..Head::default()
+    };
+    head.with_body(1, &[0x14, 0, 0, 0, 8, 0, 0, 0, control_type, 1, 0])
+}
+
+/// The same with document 01's bare marker, which is withdrawn.
+pub fn bare_marker(base_offset: i64, control_type: u8) -> Vec<u8> {
     let head = Head {
         base_offset,
         attributes: 0x20,
@@ -269,16 +279,23 @@ fn records() -> Faults {
 
 fn markers() -> Faults {
     let control = Head::with_attributes(0x20);
+    let keyed = |key: &[u8]| {
+        let record = Record {
+            key: Some(key),
+            ..Record::default()
+        };
+        control.with_body(1, &record.bytes())
+    };
+    let after = [marker(7, 0)[61..].to_vec(), vec![0]].concat();
     vec![
         (7, "a marker's count of 2", control.with_body(2, &[0; 4])),
         (7, "a marker's count of -1", control.with_body(-1, &[0; 4])),
         (8, "a marker without a type", control.with_body(1, &[0; 2])),
-        (
-            12,
-            "a marker's version 1",
-            control.with_body(1, &[0, 1, 0, 0]),
-        ),
-        (12, "a marker's type 2", control.with_body(1, &[0, 0, 0, 2])),
-        (13, "a byte after the marker", control.with_body(1, &[0; 5])),
+        (12, "a marker's version 1", keyed(&[0, 1, 0, 0])),
+        (12, "a marker's type 2", keyed(&[0, 0, 0, 2])),
+        (12, "a marker's key of three bytes", keyed(&[0; 3])),
+        (13, "a byte after the marker", control.with_body(1, &after)),
+        (41, "a bare marker, an abort", bare_marker(7, 0)),
+        (41, "a bare marker, a commit", bare_marker(7, 1)),
     ]
 }

@@ -4,6 +4,7 @@
 //! or by a script, which share nothing with the library.
 
 mod control;
+mod convert;
 mod dump;
 mod format;
 mod list;

@@ -6,6 +6,7 @@ use std::path::PathBuf;
 use crate::format::{altered, one_record};
 use crate::run::{file, program, run, scratch, Ended};
 
+/// Those that read files and write none.
 pub const VERBS: [&str; 3] = ["list", "dump", "verify"];
 
 /// A file for each status.
@@ -98,10 +99,11 @@ fn complaint_comes_after_the_lines_before_it() {
 #[test]
 fn help_has_usage_examples_and_statuses() {
     let mut pages = vec![run(["--help"]), run(["-h"])];
-    for verb in VERBS {
+    let operands = VERBS.map(|verb| (verb, "FILE.."));
+    for (verb, operands) in operands.into_iter().chain([("convert", "IN OUT")]) {
         assert!(pages[0].output.contains(&format!("\n  {verb} ")));
         let page = run([verb, "--help"]);
-        let usage = format!("\nusage: oddrafisk {verb} [OPTION].. FILE..\n");
+        let usage = format!("\nusage: oddrafisk {verb} [OPTION].. {operands}\n");
         assert!(page.output.contains(&usage));
         assert_eq!(page, run([verb, "-h", "missing.log"]));
         pages.push(page);
@@ -123,7 +125,7 @@ fn help_has_usage_examples_and_statuses() {
     }
 }
 
-/// What a newcomer meets first: what is not yet Kafka's, and how logs of brokers are read.
+/// What a newcomer meets first: what is not yet Kafka's, and which markers are read.
 #[test]
 fn help_says_what_is_kafka_s_and_what_not() {
     let dump = run(["dump", "--help"]).output;
@@ -137,10 +139,18 @@ fn help_says_what_is_kafka_s_and_what_not() {
     }
     for verb in VERBS {
         let page = run([verb, "--help"]).output.replace('\n', " ");
-        for part in ["  --control MODE ", "read their logs with --control keyed"] {
+        for part in [
+            "  --control MODE read in this mode: keyed, the default, or bare",
+            "are keyed, as brokers write them",
+            "It is refused by number 41 in either MODE, and `oddrafisk convert IN OUT` ",
+        ] {
             assert!(page.contains(part), "{page}");
         }
-        assert!(!page.contains("C-16"), "{page}");
+    }
+    let page = run(["convert", "--help"]).output.replace('\n', " ");
+    assert!(!page.contains("--control"), "{page}");
+    for part in ["`.oddrafisk-..` beside OUT", "OUT stays as it was"] {
+        assert!(page.contains(part), "{page}");
     }
 }
 
@@ -159,7 +169,7 @@ fn version_is_the_package_s() {
     }
 }
 
-const WRONG: [(&[&str], &str); 21] = [
+const WRONG: [(&[&str], &str); 29] = [
     (&[], "no verb is given"),
     (&["lits", "a.log"], "there is no verb lits"),
     (&["-", "a.log"], "there is no verb -"),
@@ -179,23 +189,23 @@ const WRONG: [(&[&str], &str); 21] = [
     (&["list"], "list needs a FILE, and - is standard input"),
     (
         &["list", "a.log", "--control"],
-        "list needs bare or keyed after --control",
+        "list needs keyed or bare after --control",
     ),
     (
         &["dump", "--control", "broker", "a.log"],
-        "dump needs bare or keyed after --control, and not broker",
+        "dump needs keyed or bare after --control, and not broker",
     ),
     (
         &["verify", "--control=Keyed", "a.log"],
-        "verify needs bare or keyed after --control, and not Keyed",
+        "verify needs keyed or bare after --control, and not Keyed",
     ),
     (
         &["list", "--control=", "a.log"],
-        "list needs bare or keyed after --control, and not ",
+        "list needs keyed or bare after --control, and not ",
     ),
     (
         &["list", "--control", "keyed", "--control", "a.log"],
-        "list needs bare or keyed after --control, and not a.log",
+        "list needs keyed or bare after --control, and not a.log",
     ),
     (
         &["list", "--controlkeyed", "a.log"],
@@ -217,6 +227,35 @@ const WRONG: [(&[&str], &str); 21] = [
         &["verify", "-", "a.log", "-"],
         "verify can read standard input once, and - is there twice",
     ),
+    (&["convert"], "convert needs IN and OUT, and no other file"),
+    (
+        &["convert", "a.log"],
+        "convert needs IN and OUT, and no other file",
+    ),
+    (
+        &["convert", "a.log", "b.log", "c.log"],
+        "convert needs IN and OUT, and no other file",
+    ),
+    (
+        &["convert", "a.log", "-"],
+        "convert needs a file for OUT, and - is none",
+    ),
+    (
+        &["convert", "-", "-"],
+        "convert needs a file for OUT, and - is none",
+    ),
+    (
+        &["convert", "--control", "keyed", "a.log", "b.log"],
+        "convert has no option --control",
+    ),
+    (
+        &["convert", "--control=keyed", "a.log", "b.log"],
+        "convert has no option --control=keyed",
+    ),
+    (
+        &["convert", "a.log", "b.log", "--json"],
+        "convert has no option --json",
+    ),
 ];
 
 #[test]
@@ -228,7 +267,8 @@ fn wrong_command_lines_are_64() {
             (64, ""),
             "{arguments:?}"
         );
-        let verb = VERBS.into_iter().find(|verb| words.starts_with(verb));
+        let mut verbs = VERBS.into_iter().chain(["convert"]);
+        let verb = verbs.find(|verb| words.starts_with(verb));
         let page = verb.map_or("--help".to_string(), |verb| format!("{verb} --help"));
         let due = format!("oddrafisk: {words}; see oddrafisk {page}\n");
         assert_eq!(ended.errors, due);

@@ -201,17 +201,22 @@ fn frame(bytes: &[u8]) -> Result<&[u8], u32> {
     bytes.get(..12 + length as usize).ok_or(1)
 }
 
+/// A record whose key begins with version and type. A bare marker, which is these four bytes alone,
+/// is withdrawn.
 fn read_marker(body: &mut Cursor, count: i64) -> Result<&'static str, u32> {
     if count != 1 {
         return Err(7);
     }
-    let version = body.integer(2)?;
-    if version != 0 {
-        return Err(12);
+    if matches!(body.bytes, [0, 0, 0, 0 | 1]) {
+        return Err(41);
     }
-    match body.integer(2)? {
-        0 => Ok("abort"),
-        1 => Ok("commit"),
+    let key = body.record()?.key.unwrap_or_default();
+    if !body.bytes.is_empty() {
+        return Err(13);
+    }
+    match key.get(..4) {
+        Some([0, 0, 0, 0]) => Ok("abort"),
+        Some([0, 0, 0, 1]) => Ok("commit"),
         _ => Err(12),
     }
 }

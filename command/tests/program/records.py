@@ -63,6 +63,15 @@ def read_record(body, base, first):
             "headers": [{"key": shown(k), "value": shown(v)} for k, v in headers]}
 
 
+def read_marker(body):
+    """The type that the key of a marker's record has after its version."""
+    body.varint()
+    body.take(1)
+    body.varint()
+    body.varint()
+    return struct.unpack_from(">hh", body.sized())[1]
+
+
 def read_batch(data, place):
     """The fields of the batch that starts there, by name, and its records."""
     base, size, epoch, _, _, attributes, last, first, greatest, producer, *rest, count = FIXED.unpack_from(data, place)
@@ -71,7 +80,7 @@ def read_batch(data, place):
     records = []
     kind = "records"
     if attributes & 32:
-        kind = ("abort", "commit")[body.take(4)[3]]
+        kind = ("abort", "commit")[read_marker(body)]
     else:
         records = [read_record(body, base, first) for _ in range(count)]
     fields.update(place=place, timestamp_type=("CreateTime", "LogAppendTime")[attributes >> 3 & 1],

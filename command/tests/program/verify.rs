@@ -4,7 +4,7 @@ use std::fs;
 use std::ops::Range;
 
 use crate::format::{
-    altered, batch_inside_a_value, crc32c, faults, marker, of_size, one_record, Head,
+    altered, bare_marker, batch_inside_a_value, crc32c, faults, marker, of_size, one_record, Head,
 };
 use crate::model::{end_of, read_log};
 use crate::run::{file, program, run, run_on, sample, samples, scratch, Ended};
@@ -123,13 +123,13 @@ fn torn_tail_is_shown_with_what_is_missing() {
     let bytes = [marker(513, 1), one_record()[..16].to_vec()].concat();
     let ended = verify(&bytes, "torn.log");
     let due = "\
-stop 1 at 65: the log is torn: 16 bytes are there, 17 are needed
+stop 1 at 72: the log is torn: 16 bytes are there, 17 are needed
   1 batch, 0 records before it
   the file ends inside the batch, or the length of the batch is damaged
-  00000030: 00 00 17 00 1D 00 00 00  1F 00 00 00 01 00 00 00  ................
-  00000040: 01 00 00 00 00 00 00 00  07 00 00 00 39 00 00 00  ............9...
-                                        ^^ ^^ ^^ ^^
-  00000050: 0B                                                .
+  00000030: 00 00 17 00 1D 00 00 00  1F 00 00 00 01 14 00 00  ................
+  00000040: 00 08 00 00 00 01 01 00  00 00 00 00 00 00 00 07  ................
+  00000050: 00 00 00 39 00 00 00 0B                           ...9....
+            ^^ ^^ ^^ ^^
 ";
     assert_eq!((ended.status, ended.output.as_str()), (2, due));
     let bytes = one_record()[..68].to_vec();
@@ -149,6 +149,30 @@ fn marked(output: &str) -> Vec<u8> {
     bytes
 }
 
+/// Written by hand, but for the checksum: the second batch is a commit in the bare form.
+#[test]
+fn bare_marker_is_shown_with_how_to_convert_it() {
+    let bare = bare_marker(513, 1);
+    let ended = verify(&[one_record(), bare.clone()].concat(), "bare.log");
+    let checksum = u32::from_be_bytes(bare[17..21].try_into().unwrap());
+    assert_eq!(checksum, crc32c(&bare[21..]));
+    let [a, b, c, d] = checksum.to_be_bytes();
+    let due = format!(
+        "stop 41 at 69: bare markers are withdrawn; `oddrafisk convert IN OUT` converts a stored log
+  1 batch, 1 record before it
+  checksum stored 0x{checksum:08X}, computed 0x{checksum:08X}
+  00000030: 00 00 17 00 1D 00 00 00  1F 00 00 00 01 0E 00 00  ................
+  00000040: 00 01 02 41 00 00 00 00  00 00 00 02 01 00 00 00  ...A............
+  00000050: 35 00 00 00 0B 02 {a:02X} {b:02X}  {c:02X} {d:02X} 00 20 00 00 00 0D  5.......... ....
+  00000060: 00 00 01 93 2E D6 0C 11  00 00 01 93 2E D6 0C 13  ................
+  00000070: 00 00 00 00 00 00 00 17  00 1D 00 00 00 1F 00 00  ................
+  00000080: 00 01 00 00 00 01                                 ......
+                  ^^ ^^ ^^ ^^
+"
+    );
+    assert_eq!((ended.status, ended.output), (1, due));
+}
+
 /// What document 01's table has at fault, or the base offset where it could be anything.
 fn due_marks(number: u32) -> Range<usize> {
     match number {
@@ -157,6 +181,7 @@ fn due_marks(number: u32) -> Range<usize> {
         4 => 17..21,
         5 | 6 => 21..23,
         7 => 57..61,
+        41 => 61..65,
         _ => 0..8,
     }
 }
@@ -172,7 +197,7 @@ fn due_part(number: u32, what: &str) -> Option<&'static str> {
 
 /// Both checksums, where the batch is there in full.
 fn due_checksums(number: u32, batch: &[u8]) -> Option<String> {
-    (4..=13).contains(&number).then(|| {
+    (4 <= number).then(|| {
         let stored = u32::from_be_bytes(batch[17..21].try_into().unwrap());
         let computed = crc32c(&batch[21..]);
         assert_eq!(stored == computed, number != 4);

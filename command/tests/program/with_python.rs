@@ -275,3 +275,19 @@ fn read_error_halfway_is_said() {
         }
     }
 }
+
+#[test]
+fn conversion_that_cannot_be_read_on_leaves_nothing() {
+    let path = file("half", "half.log", &one_record().repeat(3));
+    let output = path.with_file_name("out.log");
+    let arguments = ["convert", "-", output.to_str().unwrap()];
+    let input = ["broken", path.to_str().unwrap()];
+    let seen = run_at_terminal("half", "", &input, &arguments);
+    assert_eq!((seen.status, seen.output.as_str()), (3, ""));
+    assert!(seen
+        .errors
+        .starts_with("oddrafisk: standard input: Input/output error"));
+    let names = fs::read_dir(path.parent().unwrap()).unwrap();
+    let names: Vec<_> = names.map(|entry| entry.unwrap().file_name()).collect();
+    assert_eq!(names, ["half.log"]);
+}

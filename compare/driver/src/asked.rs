@@ -1,13 +1,11 @@
 //! What is asked of the writer: tables over a source, some of them with wild numbers. The model says
-//! the number, and the Rust the bytes of what it accepts; of keyed markers the model says both.
+//! the number, and the Rust the bytes of what it accepts; those of keyed markers are made of its own.
 
 use rskafka::protocol::record::RecordBatchCompression;
 
-use crate::compare::{in_keyed_mode, request, same, Difference};
+use crate::compare::{in_keyed_mode, keyed_marker, request, same, Difference};
 use crate::model::writing::{self, Asked};
-use crate::model::{
-    Entries, Mode, CODEC_ASKED, HEADER_ROW, KIND, RECORDS, RECORD_ROW, SHORT_OUTPUT,
-};
+use crate::model::{Entries, Mode, CODEC_ASKED, HEADER_ROW, RECORDS, RECORD_ROW, SHORT_OUTPUT};
 use crate::ours::{Library, Tables};
 use crate::random::Random;
 use crate::theirs;
@@ -91,11 +89,12 @@ fn ask_for(
     let number = request(library, &asked, written.as_deref(), room, random)?;
     refused_by_the_rust(&asked, number, room, length)?;
     let keyed = ask_keyed(library, &asked, written, &mut same_choices)?;
-    let keyed_marker = [1, 2].contains(&asked.batch[KIND]).then_some(keyed);
+    let keyed_marker = writing::is_marker(asked.batch).then_some(keyed);
     Ok(Answered { number, keyed_marker })
 }
 
-/// Asks for the same in keyed mode. Batches of records have the Rust's bytes there too.
+/// Asks for the same in keyed mode. Batches of records have the Rust's bytes there too, and a marker,
+/// which bare mode refuses, has those that are made of the Rust's.
 fn ask_keyed(
     library: &mut Library,
     bare: &Asked,
@@ -103,9 +102,9 @@ fn ask_keyed(
     random: &mut Random,
 ) -> Result<u32, Difference> {
     let asked = Asked { mode: Mode::Keyed, ..*bare };
-    let written = match asked.batch[KIND] {
-        0 => written,
-        _ => writing::measure(&asked).ok().map(|_| writing::keyed_batch(asked.batch)),
+    let written = match writing::is_marker(asked.batch) && writing::measure(&asked).is_ok() {
+        true => Some(keyed_marker(&asked)?),
+        false => written,
     };
     let room = any_room(written.as_ref().map_or(64, Vec::len), random);
     request(library, &asked, written.as_deref(), room, random).map_err(in_keyed_mode)
@@ -128,7 +127,7 @@ fn refused_by_the_rust(
     length: usize,
 ) -> Result<(), Difference> {
     use RecordBatchCompression::{Gzip, Lz4, Snappy, Zstd};
-    let plain = Asked { codec: 0, ..*asked };
+    let plain = Asked { mode: Mode::Keyed, codec: 0, ..*asked };
     if number == SHORT_OUTPUT {
         let value = theirs::value(asked);
         same(theirs::fits(&value, room), false, "the Rust writes to a short output")?;

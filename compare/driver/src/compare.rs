@@ -4,15 +4,16 @@ use std::borrow::Cow;
 
 use rskafka::protocol::record::RecordBatch;
 
+use crate::model::converting::{self, Conversion};
 use crate::model::reading::{self, Reading};
 use crate::model::writing::{self, Asked};
 use crate::model::{
-    crc32c, Mode, ACCEPTED, HEADERS, HEADER_ROW, KIND, MORE_BYTES, NO_ROOM, RECORDS, RECORD_ROW,
-    UNKNOWN_CONTROL, WRONG_COUNT,
+    crc32c, Mode, ACCEPTED, BARE_MARKER, HEADERS, HEADER_ROW, KIND, MORE_BYTES, NO_ROOM, RECORDS,
+    RECORD_ROW, UNKNOWN_CONTROL, WRONG_COUNT,
 };
 use crate::ours::{Library, Tables};
 use crate::random::Random;
-use crate::shape::{repair_crc, CHECKED, CONTROL};
+use crate::shape::{repair_crc, twin, CHECKED, CONTROL};
 use crate::theirs::{self, Accepted, Answer};
 
 /// What differs, in words.
@@ -28,6 +29,7 @@ pub struct Compared {
     /// Whether it was read with rows too few as well.
     pub no_room: bool,
     pub keyed: Keyed,
+    pub converted: Converted,
 }
 
 /// What an input was answered with in keyed mode.
@@ -39,6 +41,13 @@ pub struct Keyed {
     pub control_bit: bool,
     /// Whether its answer had to be that of bare mode.
     pub alike: bool,
+}
+
+/// What an input was answered with in the conversion.
+pub struct Converted {
+    pub number: u32,
+    /// Whether what is given is not the batch's own bytes.
+    pub changed: bool,
 }
 
 pub fn same<T: PartialEq>(one: T, other: T, what: &'static str) -> Result<(), Difference> {
@@ -54,7 +63,8 @@ pub fn in_keyed_mode(what: Difference) -> Difference {
 }
 
 /// All that is answered of these bytes is what the model says, and in the domain what the Rust
-/// says.
+/// says. 41 is answered just where the Rust accepts a control batch, and that is all of the domain in
+/// which the Rust's answer is not ours.
 pub fn input(
     library: &mut Library,
     bytes: &[u8],
@@ -65,12 +75,18 @@ pub fn input(
     let (model, number) = modelled(library, Mode::Bare, bytes, random)?;
     same(library.crc32c(bytes), crc32c(bytes), "the checksum is not the model's")?;
     let keyed = keyed(library, bytes, &model, &mut same_choices).map_err(in_keyed_mode)?;
+    let converted = converted(library, bytes, &mut same_choices)?;
     let theirs = theirs::read(bytes);
     if let Answer::Panicked = theirs {
         return Err("the Rust panics".into());
     }
-    if model.in_domain() {
-        against_rust(library, bytes, &model, &theirs, random)?;
+    let control_batch = theirs.control_batch();
+    let withdrawn = model.number == BARE_MARKER;
+    same(withdrawn, control_batch.is_some(), "41 and the Rust's control batches are not the same")?;
+    match control_batch {
+        Some(accepted) => held_by_twin(library, bytes, accepted, random)?,
+        None if model.in_domain() => against_rust(library, bytes, &model, &theirs, random)?,
+        None => {}
     }
     Ok(Compared {
         number: model.number,
@@ -79,6 +95,7 @@ pub fn input(
         canonical: model.canonical,
         no_room: number == NO_ROOM,
         keyed,
+        converted,
     })
 }
 
@@ -106,8 +123,8 @@ fn modelled(
     Ok((model, number))
 }
 
-/// The same bytes in keyed mode. Without the control bit, and where the answer is 1 to 7, both modes
-/// answer alike; of other control batches the Rust says what it says of their record.
+/// The same bytes in keyed mode. Without the control bit, and where the answer is 1 to 7 or 41, both
+/// modes answer alike; of other control batches the Rust says what it says of their record.
 fn keyed(
     library: &mut Library,
     bytes: &[u8],
@@ -116,8 +133,8 @@ fn keyed(
 ) -> Result<Keyed, Difference> {
     let (model, _) = modelled(library, Mode::Keyed, bytes, random)?;
     let control_bit = bytes.get(CHECKED + 1).is_some_and(|low| low & CONTROL as u8 != 0);
-    let early = MORE_BYTES..=WRONG_COUNT;
-    let alike = !control_bit || early.contains(&bare.number) || early.contains(&model.number);
+    let shared = |number| (MORE_BYTES..=WRONG_COUNT).contains(&number) || number == BARE_MARKER;
+    let alike = !control_bit || shared(bare.number) || shared(model.number);
     if alike {
         same(&model, bare, "the answer is not that of bare mode")?;
     } else {
@@ -168,15 +185,118 @@ fn marker_written(
     model: &Reading,
     random: &mut Random,
 ) -> Result<(), Difference> {
-    let written = writing::keyed_batch(&model.entries);
-    same(model.canonical, written == bytes, "what is canonical is not what the model writes")?;
     let batch = &model.entries;
     let asked =
         Asked { mode: Mode::Keyed, batch, codec: 0, records: &[], headers: &[], source: bytes };
+    let written = keyed_marker(&asked)?;
+    same(model.canonical, written == bytes, "what is canonical is not what is written")?;
     for room in [written.len() + 3, written.len(), written.len() - 1] {
         request(library, &asked, Some(&written), room, random)?;
     }
     Ok(())
+}
+
+/// The bytes that are due of a marker in keyed mode: those that the Rust's own make, and the model's.
+pub fn keyed_marker(asked: &Asked) -> Result<Vec<u8>, Difference> {
+    let bare = theirs::written(&theirs::value(asked)).ok_or("the Rust does not write a marker")?;
+    let keyed = twin(&bare);
+    same(&keyed, &writing::keyed_batch(asked.batch), "the model's marker is not the Rust's")?;
+    Ok(keyed)
+}
+
+/// The conversion of these bytes is the model's: to outputs that are just enough, a byte longer and a
+/// byte too short, or where it refuses to any. Other bytes that follow change nothing, and what is
+/// given is given again for itself.
+fn converted(
+    library: &mut Library,
+    bytes: &[u8],
+    random: &mut Random,
+) -> Result<Converted, Difference> {
+    let model = converting::convert(bytes);
+    let given = &model.given[..];
+    if model.number == ACCEPTED {
+        for room in [given.len() - 1, given.len(), given.len() + 1] {
+            conversion(library, bytes, &model, room, random)?;
+        }
+        let taken = given.len() as i64;
+        same(taken <= model.taken + 7, true, "more is given than taken and seven bytes")?;
+        let again = Conversion { number: ACCEPTED, taken, given: given.into() };
+        same(&converting::convert(given), &again, "the model converts twice otherwise")?;
+        let twice = conversion(library, given, &again, given.len(), random);
+        twice.map_err(in_converting_twice)?;
+    } else {
+        let room = random.below(80);
+        conversion(library, bytes, &model, room, random)?;
+    }
+    if model.number != MORE_BYTES {
+        let more = random.next().to_be_bytes();
+        let longer = [bytes, &more[..1 + random.below(more.len())]].concat();
+        let room = given.len() + random.below(9);
+        conversion(library, &longer, &model, room, random).map_err(in_longer_bytes)?;
+    }
+    let changed = !given.is_empty() && !bytes.starts_with(given);
+    Ok(Converted { number: model.number, changed })
+}
+
+fn in_converting_twice(what: Difference) -> Difference {
+    format!("in converting twice, {what}").into()
+}
+
+fn in_longer_bytes(what: Difference) -> Difference {
+    format!("when bytes are appended, {what}").into()
+}
+
+/// Converts to an output of so many bytes that are filled with anything: the answer is what is due,
+/// and so is every byte of the output.
+fn conversion(
+    library: &mut Library,
+    bytes: &[u8],
+    due: &Conversion,
+    room: usize,
+    random: &mut Random,
+) -> Result<(), Difference> {
+    let mut output = random.bytes(room);
+    let mut due_output = output.clone();
+    let answer = due.with_room(room);
+    if answer.0 == ACCEPTED {
+        due_output[..due.given.len()].copy_from_slice(&due.given);
+    }
+    same(library.convert(bytes, &mut output), answer, "the conversion's answer differs")?;
+    same(output, due_output, "the conversion's output is not as it should be")
+}
+
+/// A control batch that the Rust accepts is refused, so it is held by its twin. The conversion gives
+/// that of the bytes that the Rust has read and of those that it writes; and the latter is what is
+/// written in keyed mode, and read there as the Rust has read it.
+fn held_by_twin(
+    library: &mut Library,
+    bytes: &[u8],
+    accepted: &Accepted,
+    random: &mut Random,
+) -> Result<(), Difference> {
+    let Accepted { batch, consumed, written } = accepted;
+    let due = |bare: &[u8]| Conversion {
+        number: ACCEPTED,
+        taken: bare.len() as i64,
+        given: twin(bare).into(),
+    };
+    for bare in [&bytes[..*consumed], written] {
+        conversion(library, bare, &due(bare), 72, random).map_err(of_twin)?;
+    }
+    let keyed = twin(written);
+    let entries = theirs::entries(batch, keyed.len());
+    let read = library.check(Mode::Keyed, &keyed);
+    same(read, (ACCEPTED, entries), "a twin is not read as the Rust has read it")?;
+    same(library.is_canonical(Mode::Keyed, &keyed), 1, "a twin is not canonical")?;
+    let asked =
+        |mode| Asked { mode, batch: &entries, codec: 0, records: &[], headers: &[], source: bytes };
+    request(library, &asked(Mode::Keyed), Some(&keyed), keyed.len(), random).map_err(of_twin)?;
+    let bare = request(library, &asked(Mode::Bare), None, keyed.len(), random)?;
+    same(bare, BARE_MARKER, "a bare marker is not refused with 41 in writing")
+}
+
+fn of_twin(what: Difference) -> Difference {
+    format!("of a twin, {what}").into()
 }
 
 /// Reads with tables of so many numbers, filled with anything: answer and tables are the model's.

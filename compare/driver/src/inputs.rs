@@ -210,7 +210,7 @@ fn batches_of(log: &[u8]) -> Vec<(usize, usize)> {
     let mut ends = Vec::new();
     let mut at = 0;
     while at < log.len() {
-        let read = reading::read(Mode::Bare, &log[at..]);
+        let read = reading::read(Mode::Keyed, &log[at..]);
         assert_eq!(read.number, ACCEPTED, "a sample has a batch that is not one, at {at}");
         let end = at + read.entries[BYTES] as usize;
         ends.push((at, end));

@@ -114,6 +114,18 @@ impl Library {
         (number, answer[0])
     }
 
+    /// The output is lent as it is, and comes back as the library leaves it.
+    pub fn convert(&mut self, bytes: &[u8], output: &mut [u8]) -> (u32, [i64; 2]) {
+        about_to_read(bytes);
+        let bytes = self.lent.bytes.read_only(bytes);
+        let lent = self.output.writable(output);
+        let answer = self.answer.writable(&[UNANSWERED; 2]);
+        let answer: &mut [i64; 2] = answer.try_into().expect("two are lent");
+        let number = sys::convert(bytes, lent, answer);
+        output.copy_from_slice(lent);
+        (number, *answer)
+    }
+
     pub fn is_canonical(&mut self, mode: Mode, bytes: &[u8]) -> u32 {
         about_to_read(bytes);
         sys::is_canonical(self.modes.number(mode), self.lent.bytes.read_only(bytes))

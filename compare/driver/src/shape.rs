@@ -110,6 +110,15 @@ pub fn repair(bytes: &mut [u8]) {
     }
 }
 
+/// The keyed form of a bare control batch: its own bytes, with a record whose key they end with in the
+/// place of these four, and with the length and the checksum of that.
+pub fn twin(bare: &[u8]) -> Vec<u8> {
+    let (fields, marker) = bare.split_at(BODY);
+    let mut keyed = [fields, &[20, 0, 0, 0, 8], marker, &[1, 0]].concat();
+    repair(&mut keyed);
+    keyed
+}
+
 impl Coded {
     fn put(&self, right: i64, out: &mut Vec<u8>) {
         match self {

@@ -5,7 +5,7 @@ use std::fmt::Write;
 
 use crate::inputs;
 use crate::model::reading;
-use crate::model::{Mode, ACCEPTED, BEYOND_LIMITS, BYTES};
+use crate::model::{Mode, ACCEPTED, BARE_MARKER, BEYOND_LIMITS, BYTES, MORE_BYTES, STANDING};
 use crate::random::Random;
 use crate::tally::hex;
 use crate::theirs::{self, Accepted, Answer};
@@ -33,19 +33,23 @@ pub fn sample() -> (Vec<u8>, String) {
     (framed, answers)
 }
 
-/// The small batches, and random inputs, so many of each number in the domain. The numbers are
-/// the model's: they serve to choose, and are in no answer.
+/// The small batches, and random inputs, so many of each number in the domain, but for the control
+/// batches that the Rust accepts (41). The numbers are the model's: they serve to choose, and are in
+/// no answer.
 fn chosen() -> Vec<Vec<u8>> {
     let mut chosen: Vec<Vec<u8>> = inputs::small().iter().map(|batch| batch.bytes()).collect();
-    let mut wanted: BTreeMap<u32, usize> = (1..=13)
-        .filter(|&number| number != BEYOND_LIMITS)
+    chosen.retain(|input| number_in_both(input).is_some_and(|number| number != BARE_MARKER));
+    let mut wanted: BTreeMap<u32, usize> = [MORE_BYTES]
+        .into_iter()
+        .chain(STANDING)
+        .filter(|number| ![BEYOND_LIMITS, BARE_MARKER].contains(number))
         .map(|number| (number, REFUSED_INPUTS))
         .collect();
     wanted.insert(ACCEPTED, ACCEPTED_INPUTS);
     let mut random = Random::new(1);
     while !wanted.is_empty() {
         let input = inputs::random(&mut random);
-        let number = reading::read(Mode::Bare, &input).number;
+        let Some(number) = number_in_both(&input) else { continue };
         if let Some(more) = wanted.get_mut(&number).filter(|_| input.len() <= LONGEST_INPUT) {
             *more -= 1;
             if *more == 0 {
@@ -57,6 +61,13 @@ fn chosen() -> Vec<Vec<u8>> {
     chosen
 }
 
+/// The number in bare mode, where keyed mode accepts and refuses the same: so that the Rust's answer,
+/// which knows no keyed marker, is that of either mode.
+fn number_in_both(input: &[u8]) -> Option<u32> {
+    let [bare, keyed] = [Mode::Bare, Mode::Keyed].map(|mode| reading::read(mode, input).number);
+    ((bare == ACCEPTED) == (keyed == ACCEPTED)).then_some(bare)
+}
+
 fn shown(bytes: Option<&[u8]>) -> String {
     bytes.map_or("null".to_string(), |bytes| format!("x{}", hex(bytes)))
 }
@@ -64,10 +75,9 @@ fn shown(bytes: Option<&[u8]>) -> String {
 fn put_accepted(text: &mut String, input: &[u8], accepted: &Accepted) {
     let entries = theirs::entries(&accepted.batch, accepted.consumed);
     let fields = entries[..10].iter().map(i64::to_string).collect::<Vec<_>>().join(" ");
-    let kind = ["records", "abort", "commit"][entries[10] as usize];
     let mut line =
         |line: std::fmt::Arguments| writeln!(text, "{line}").expect("a string takes all");
-    line(format_args!("accepted {} {fields} {kind}", entries[BYTES]));
+    line(format_args!("accepted {} {fields} records", entries[BYTES]));
     for record in theirs::records(&accepted.batch) {
         let [key, value] = [&record.key, &record.value].map(|bytes| shown(bytes.as_deref()));
         line(format_args!(

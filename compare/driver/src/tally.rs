@@ -3,9 +3,10 @@
 use std::collections::BTreeMap;
 
 use crate::asked::Answered;
-use crate::compare::{Compared, Difference, Keyed};
+use crate::compare::{Compared, Converted, Difference, Keyed};
 use crate::model::{
-    ACCEPTED, BEYOND_LIMITS, BYTES_LEFT, CODEC_ASKED, MORE_BYTES, SHORT_OUTPUT, WRONG_ROW,
+    ACCEPTED, BARE_MARKER, BEYOND_LIMITS, CODEC_ASKED, MORE_BYTES, SHORT_OUTPUT, STANDING,
+    WRONG_ROW,
 };
 
 #[derive(Default)]
@@ -18,6 +19,7 @@ pub struct Tally {
     no_room: usize,
     outside_accepted: Shortest,
     keyed: KeyedTally,
+    converted: ConvertedTally,
     differences: BTreeMap<Difference, Shortest>,
 }
 
@@ -48,7 +50,8 @@ impl KeyedTally {
     /// Every answer that there is to a control batch and to a request for a marker, with how often
     /// it was given.
     fn answers(&self) -> impl Iterator<Item = (String, usize)> + '_ {
-        let refused = (MORE_BYTES..=BYTES_LEFT).map(|number| (number, 0, String::new()));
+        let refused = [MORE_BYTES].into_iter().chain(STANDING);
+        let refused = refused.map(|number| (number, 0, String::new()));
         let accepted = [(1, ", abort"), (2, ", commit")];
         let accepted = accepted.map(|(kind, said)| (ACCEPTED, kind, said.to_string()));
         let read = accepted.into_iter().chain(refused).map(|(number, kind, said)| {
@@ -64,16 +67,14 @@ impl KeyedTally {
 
     fn print(&self) {
         println!("by number, of control batches in keyed mode:");
-        for (answer, count) in self.answers() {
-            println!("{count:>10} {answer}{}", if count == 0 { ": EMPTY" } else { "" });
-        }
+        self.answers().for_each(print_answer);
         let control: usize = self.read.values().sum();
         let outside = self.read.get(&(BEYOND_LIMITS, 0)).copied().unwrap_or(0);
         let apart = control - self.alike;
         let Self { without_control_bit, alike, canonical, .. } = self;
         println!(
             "in keyed mode: {} inputs read, of which {without_control_bit} without the control bit \
-             and {alike} with it, answered 1 to 7, are answered as in bare mode",
+             and {alike} with it, answered 1 to 7 or 41, are answered as in bare mode",
             without_control_bit + control
         );
         println!(
@@ -82,6 +83,52 @@ impl KeyedTally {
             apart - outside
         );
     }
+}
+
+/// An answer with how often it was given.
+fn print_answer((answer, count): (String, usize)) {
+    println!("{count:>10} {answer}{}", if count == 0 { ": EMPTY" } else { "" });
+}
+
+/// What was converted.
+#[derive(Default)]
+struct ConvertedTally {
+    /// By number, and by whether what is given is not the batch's own bytes.
+    answered: BTreeMap<(u32, bool), usize>,
+}
+
+impl ConvertedTally {
+    fn input(&mut self, converted: &Converted) {
+        *self.answered.entry((converted.number, converted.changed)).or_default() += 1;
+    }
+
+    fn count(&self, number: u32, changed: bool) -> usize {
+        self.answered.get(&(number, changed)).copied().unwrap_or(0)
+    }
+
+    /// Every answer that there is to what is to be converted, with how often it was given. Each that
+    /// is accepted was also converted to an output that is too short.
+    fn answers(&self) -> impl Iterator<Item = (String, usize)> + '_ {
+        let [copied, changed] = [false, true].map(|changed| self.count(ACCEPTED, changed));
+        let refused = [MORE_BYTES].into_iter().chain(STANDING);
+        let refused = refused.filter(|&number| number != BARE_MARKER);
+        let refused = refused.map(|number| (number.to_string(), self.count(number, false)));
+        [(format!("{ACCEPTED}, a bare marker made keyed"), changed)]
+            .into_iter()
+            .chain([(format!("{ACCEPTED}, copied"), copied)])
+            .chain(refused)
+            .chain([(SHORT_OUTPUT.to_string(), copied + changed)])
+            .map(|(answer, count)| (format!("answered {answer}"), count))
+    }
+
+    fn print(&self) {
+        println!("by number, in converting:");
+        self.answers().for_each(print_answer);
+    }
+}
+
+fn all_met(mut answers: impl Iterator<Item = (String, usize)>) -> bool {
+    answers.all(|(_, count)| count > 0)
 }
 
 /// A group of inputs: each is a test, which fails where one of them differs or there is none.
@@ -160,6 +207,7 @@ impl Tally {
             self.outside_accepted.add(bytes);
         }
         self.keyed.input(&compared.keyed);
+        self.converted.input(&compared.converted);
     }
 
     pub fn asked(&mut self, answered: Result<Answered, Difference>) {
@@ -186,27 +234,38 @@ impl Tally {
         self.asked.iter().for_each(|(number, count)| println!("{count:>10} answered {number}"));
         self.print_sums();
         self.keyed.print();
+        self.converted.print();
         for (difference, shortest) in &self.differences {
             println!("DIFFERENT, {} times: {difference}", shortest.count);
             shortest.print();
         }
-        // That each answer of keyed mode is among those that were compared is a test as well.
-        let all_met = self.keyed.answers().all(|(_, count)| count > 0);
+        // That each answer is among those that were compared are tests as well.
+        let met =
+            [self.bare_met(), all_met(self.keyed.answers()), all_met(self.converted.answers())];
+        let met_tests = met.iter().filter(|&&met| met).count();
         let passed = self.groups.iter().filter(|group| group.passed()).count();
-        let failed = self.groups.len() - passed + usize::from(!all_met);
-        println!("{} passed, {failed} failed", passed + usize::from(all_met));
+        let failed = self.groups.len() + met.len() - passed - met_tests;
+        println!("{} passed, {failed} failed", passed + met_tests);
         if passed < self.groups.len() || passed == 0 {
             Err("Oddrafisk, the model and the Rust are not alike")
-        } else if !all_met {
-            Err("an answer of keyed mode is not among those that were compared")
+        } else if met_tests < met.len() {
+            Err("an answer is not among those that were compared")
         } else {
             Ok(())
         }
     }
 
+    /// Whether bare mode has given each answer that there is to bytes, and refused a bare marker in
+    /// writing.
+    fn bare_met(&self) -> bool {
+        let mut numbers = [ACCEPTED, MORE_BYTES].into_iter().chain(STANDING);
+        numbers.all(|number| self.read.contains_key(&number))
+            && self.asked.contains_key(&BARE_MARKER)
+    }
+
     fn print_sums(&self) {
         let read = |number| self.read.get(&number).copied().unwrap_or(0);
-        let outside = read(BEYOND_LIMITS);
+        let [outside, withdrawn] = [read(BEYOND_LIMITS), read(BARE_MARKER)];
         let compared: usize = self.read.values().sum();
         let asked: usize = self.asked.values().sum();
         let (accepted, canonical) = (read(ACCEPTED), self.canonical);
@@ -222,9 +281,13 @@ impl Tally {
         );
         self.outside_accepted.print();
         println!(
+            "control batches that the Rust accepts: {withdrawn}, which are answered 41 in both modes, as \
+             no others are; excluded from the comparison with the Rust, and held by their twins"
+        );
+        println!(
             "compared with the model: {compared} inputs read, {asked} asked to be written; with the \
              Rust too: {} inputs read",
-            compared - outside
+            compared - outside - withdrawn
         );
     }
 }

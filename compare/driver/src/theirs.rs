@@ -27,6 +27,20 @@ pub struct Accepted {
     pub written: Vec<u8>,
 }
 
+impl Answer {
+    /// The control batch that the Rust accepts, if it does.
+    pub fn control_batch(&self) -> Option<&Accepted> {
+        match self {
+            Answer::Accepted(accepted) if is_control(&accepted.batch) => Some(accepted),
+            _ => None,
+        }
+    }
+}
+
+fn is_control(batch: &RecordBatch) -> bool {
+    matches!(batch.records, ControlBatchOrRecords::ControlBatch(_))
+}
+
 impl Accepted {
     /// Whether the bytes, all of them, are one batch just as the Rust writes it.
     pub fn is_canonical(&self, bytes: &[u8]) -> bool {

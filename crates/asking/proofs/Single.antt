@@ -29,7 +29,8 @@ fault n =
     pick (eqb n 20) WriteFault.Codec
     (pick (eqb n 21) WriteFault.Row
     (pick (eqb n 22) WriteFault.KeyNotUtf8
-    (pick (eqb n 23) WriteFault.TooLong WriteFault.ShortOutput)))
+    (pick (eqb n 23) WriteFault.TooLong
+    (pick (eqb n 41) WriteFault.BareMarker WriteFault.ShortOutput))))
 
 pub fault-again : (f : WriteFault) → fault (writeNumberOf f) ≡ f
 fault-again WriteFault.Codec = refl
@@ -37,6 +38,7 @@ fault-again WriteFault.Row = refl
 fault-again WriteFault.KeyNotUtf8 = refl
 fault-again WriteFault.TooLong = refl
 fault-again WriteFault.ShortOutput = refl
+fault-again WriteFault.BareMarker = refl
 
 -- ---- an answer, made from what it says
 

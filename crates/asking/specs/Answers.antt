@@ -11,13 +11,14 @@ use Rattle.asking.specs.declared.HeaderAsked.{HeaderAsked}
 use Rattle.asking.specs.declared.AskedRecord.{AskedRecord}
 use Rattle.asking.specs.declared.RecordAsked.{RecordAsked}
 
--- document 01, Writer's numbers
+-- document 01, Writer's numbers, and C-24's 41
 abbrev pub writeNumberOf : WriteFault → ℕ
 writeNumberOf WriteFault.Codec = 20
 writeNumberOf WriteFault.Row = 21
 writeNumberOf WriteFault.KeyNotUtf8 = 22
 writeNumberOf WriteFault.TooLong = 23
 writeNumberOf WriteFault.ShortOutput = 24
+writeNumberOf WriteFault.BareMarker = 41
 
 abbrev pub spanOf : Shown → Option Span
 spanOf Shown.Null = none

@@ -12,13 +12,16 @@ ghost use Rattle.asking.specs.Answers.{viewHeader, viewRecord};
 ghost use Rattle.asking.specs.Numbers.{viewAsked, viewCount};
 ghost use Rattle.asking.specs.Promises.{WriteNumberPromise, HeaderAskedPromise, RecordAskedPromise};
 
-// Why a batch, or its records, are not written. Records alone are never refused for their codec.
+// Why a batch, or its records, are not written. Records alone are never refused for their codec, or for a
+// marker.
 pub enum WriteFault {
     Codec,
     Row,
     KeyNotUtf8,
     TooLong,
     ShortOutput,
+    // A marker is asked for in the form that is withdrawn.
+    BareMarker,
 }
 
 // Bytes of the source, or null.
@@ -74,6 +77,7 @@ impl WriteFault {
             WriteFault::KeyNotUtf8 => 22,
             WriteFault::TooLong => 23,
             WriteFault::ShortOutput => 24,
+            WriteFault::BareMarker => 41,
         }
     }
 }

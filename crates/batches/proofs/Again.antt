@@ -43,8 +43,8 @@ module _ (mode : ControlMode) (s : List ℕ) (t : Tables) (o : ReadOutcome) (b :
   pub record Again : Type 0 where
     pub batch : Accepted
     pub judged : judge mode s ≡ accepted batch
-    pub gives : batchGiven mode (viewFields b) 0 (viewWanted kind) (o .tables) s ≡ given (rewritten mode s batch)
-    pub within : length (rewritten mode s batch) ≤ consumed
+    pub gives : batchGiven mode (viewFields b) 0 (viewWanted kind) (o .tables) s ≡ given (rewritten s batch)
+    pub within : length (rewritten s batch) ≤ consumed
 
   module _ (bytes : Bytes s) (e : o .result ≡ BatchRead.Accepted b kind headers consumed) where
     abbrev answered : Answer
@@ -80,4 +80,4 @@ module _ (mode : ControlMode) (s : List ℕ) (t : Tables) (o : ReadOutcome) (b :
 pub rewritable : Rewritable
 rewritable mode s t o b kind headers consumed r p e m =
     let x = again mode s t o b kind headers consumed (p .lent) e p in
-    (length (rewritten mode s (x .batch)), single-written _ r (Written.Bytes _) (m ∙ ap measured (x .gives)) refl, x .within)
+    (length (rewritten s (x .batch)), single-written _ r (Written.Bytes _) (m ∙ ap measured (x .gives)) refl, x .within)

@@ -15,7 +15,8 @@ use Rattle.layout.specs.Table.{uncountedFields, uncheckedFields, checkedFields}
 use Rattle.layout.specs.Batch.{Content, control, records, Batch}
 use Rattle.layout.specs.Format.{grammarOf, ContentBytes, Grammar, BatchBytesWith}
 use Rattle.layout.specs.declared.ControlMode.{ControlMode}
-use Rattle.markers.proofs.Forms.{forms-lawful}
+use Rattle.markers.proofs.Forms.{forms-lawful, writes-one}
+use Rattle.markers.proofs.Keyed.{keyed-octets}
 use Rattle.batches.specs.Placed.{shownContent}
 
 pub concat-bytes : (xs : List (List ℕ)) → Each Bytes xs → Bytes (concat xs)
@@ -25,8 +26,7 @@ concat-bytes (x ∷ rest) (b, each) = joined-bytes x (concat rest) b (concat-byt
 
 pub content-bytes : (mode : ControlMode) (s bs : List ℕ) (c : Content RecordSpans) → Bytes s → ContentBytes (grammarOf mode) true bs (shownContent s c) → Bytes bs
 content-bytes mode s bs (control m) b g =
-    let form = forms-lawful mode in
-    subst Bytes (sym (form .strict bs m .0 g)) (form .bytes m)
+    subst Bytes (sym (writes-one mode m bs (forms-lawful mode .strict bs m .0 g))) (keyed-octets m)
 content-bytes mode s bs (records rs) b g = records-bytes g (shown-of-bytes s b rs)
 
 module _ {grammar : Grammar} {strict : Bool} {bs : List ℕ} {b : Batch Record} (g : BatchBytesWith grammar strict bs b) (body : Bytes (g .body)) where

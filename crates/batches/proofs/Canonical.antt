@@ -34,7 +34,7 @@ module _ (mode : ControlMode) (s : List ℕ) (bytes : Bytes s) (c : Canonical mo
   canonical-own : Own mode s (c .batch)
   canonical-own = own mode s (c .batch) bytes (c .judged)
 
-  canonical-written : rewritten mode s (c .batch) ≡ s
+  canonical-written : rewritten s (c .batch) ≡ s
   canonical-written = given-same (sym (own-tables-given canonical-own) ∙ c .rewritten)
 
   canonical-encodes : BatchBytes mode true s (shownBatch s (c .batch))
@@ -48,7 +48,7 @@ strict-canonical mode s b bytes g =
       batch = placedBatch 0 0 g;
       judged = judged;
       whole = refl;
-      rewritten = own-tables-given o ∙ ap given (ap (writtenBatch mode) shows ∙ sym (batch-written mode g));
+      rewritten = own-tables-given o ∙ ap given (ap (writtenBatch) shows ∙ sym (batch-written mode g));
     }
 
 pub canonical-is-strict : (mode : ControlMode) (s : List ℕ) → Bytes s → Exactly (Canonical mode s) ((b : Batch Record) × BatchBytes mode true s b)
@@ -68,7 +68,7 @@ canonical-again mode s t o b kind headers consumed out w canonical p e h q =
     let c = canonical .says .0 refl in
     let x = again mode s t o b kind headers consumed bytes e p in
     let same : x .batch ≡ c .batch = same-accepted (sym (x .judged) ∙ c .judged) in
-    let gives = x .gives ∙ ap given (ap (rewritten mode s) same ∙ canonical-written mode s bytes c) in
+    let gives = x .gives ∙ ap given (ap (rewritten s) same ∙ canonical-written mode s bytes c) in
     let room = le-leb (0 + length s) (length out) (omega arith) in (
       single-written _ (w .result) (Written.Bytes (length s)) (q .by .answer ∙ ap (answerDue 0 out) gives ∙ rw room) refl,
       q .by .output ∙ ap (outputDue 0 out) gives ∙ rw (room, zero-add),

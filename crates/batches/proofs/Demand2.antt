@@ -35,6 +35,7 @@ use Rattle.batches.proofs.Rooms.{Goes, wanting, refusing, roomy, crampe
 use Rattle.batches.proofs.Filled.{stored-filled}
 use Rattle.batches.proofs.Reasons.{no-room}
 use Rattle.batches.proofs.ReadsBack.{room-for, with-room}
+use Rattle.batches.proofs.Standing.{standing-apart}
 
 -- ---- the kind
 
@@ -51,7 +52,7 @@ placed-kind mode strict bs (records rs) p g = refl
 
 -- no refusal has the number 0
 pub refused-some : (mode : ControlMode) (s : List ℕ) (n : ℕ) → judge mode s ≡ refused n → n ≡ 0 → ⊥
-refused-some mode s n e z = let (l, _) = refusals (wayOf mode) (ways-within mode) s 0 0 n e in omega (arith, l, z)
+refused-some mode s n e z = omega (arith, standing-apart (refusals (wayOf mode) (ways-within mode) s 0 0 n e) .0, z)
 
 -- a batch of the format, and an answer that accepts it
 record Told (mode : ControlMode) (s : List ℕ) (b : Accepted) (a : Answer) : Type 0 where
@@ -127,12 +128,15 @@ refused-alone e = ap (λ (a : Answer). a .number) e
 
 module _ (mode : ControlMode) (s : List ℕ) (bytes : Bytes s) (n : ℕ) where
   by-check : (a : Answer) → a ≡ answerWithRoom (judge mode s) → Standing n → a ≡ refuses n → FirstFault mode s n
-  by-check a e (l, h) f = by (judge mode s) refl (sym f ∙ e)
+  by-check a e standing f = by (judge mode s) refl (sym f ∙ e)
     where
+      l : 2 ≤ n
+      l = standing-apart standing .0
+
       by : (j : Judgement) → judge mode s ≡ j → refuses n ≡ answerWithRoom j → FirstFault mode s n
-      by (more m) j w = absurd (omega (arith, numbered w))
+      by (more m) j w = absurd (omega (arith, numbered w, l))
       by (refused m) j w = subst (FirstFault mode s) (refused-alone (sym w)) (fault-told mode bytes j)
-      by (accepted b) j w = absurd (omega (arith, numbered w))
+      by (accepted b) j w = absurd (omega (arith, numbered w, l))
 
 pub check-faults : CheckFaults
 check-faults mode s r n p = (
@@ -142,15 +146,15 @@ check-faults mode s r n p = (
 
 pub read-faults : ReadFaults
 read-faults mode s t o n p = (
-  λ ((l, h), f). by (judge mode s) refl (goes (judge mode s) t o (p .by)) f l h,
+  λ (standing, f). let (l, h) = standing-apart standing in by (judge mode s) refl (goes (judge mode s) t o (p .by)) f l h,
   λ x. let (e, standing) = told-fault mode (p .lent) x in (standing, p .by .answer ∙ ap (λ (j : Judgement). answerOf j (roomsOf t)) e),
 )
   where
-    by : (j : Judgement) → judge mode s ≡ j → Goes t o j → viewRead (o .result) ≡ refuses n → 2 ≤ n → n ≤ 13 → FirstFault mode s n
+    by : (j : Judgement) → judge mode s ≡ j → Goes t o j → viewRead (o .result) ≡ refuses n → 2 ≤ n → (n ≡ 14 → ⊥) → FirstFault mode s n
     by _ e (wanting a w) f l h = absurd (omega (arith, numbered (sym f ∙ a)))
     by _ e (refusing a w) f l h = subst (FirstFault mode s) (refused-alone (sym a ∙ f)) (fault-told mode (p .lent) e)
     by _ e (roomy r a w) f l h = absurd (omega (arith, numbered (sym f ∙ a)))
-    by _ e (cramped r a w) f l h = absurd (omega (arith, numbered (sym f ∙ a)))
+    by _ e (cramped r a w) f l h = absurd (h (numbered (sym f ∙ a)))
 
 pub stands-by-format : StandsByFormat
 stands-by-format mode s t o p one fourteen = by (judge mode s) refl (goes (judge mode s) t o (p .by))

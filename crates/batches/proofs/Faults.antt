@@ -16,7 +16,7 @@ use Rattle.primitives.specs.Stands.{Encoding}
 use Rattle.primitives.specs.Faults.{Wrong}
 use Rattle.primitives.proofs.Steps.{map-no}
 use Rattle.primitives.proofs.Windows.{window-bytes}
-use Rattle.records.specs.Format.{RecordBytes}
+use Rattle.records.specs.Format.{Record, RecordBytes}
 use Rattle.records.specs.Judgement.{recordsAt}
 use Rattle.records.specs.Faults.{RecordsWrong}
 use Rattle.records.proofs.RecordFaults.{first-faults}
@@ -24,7 +24,9 @@ use Rattle.records.proofs.FaultNumbers.{record-fault-numbers, first-fault-numbe
 use Rattle.layout.specs.declared.ControlMode.{ControlMode}
 use Rattle.layout.specs.Batch.{control, records}
 use Rattle.opening.specs.Judgement.{refused, attributesIn, Control, contentAt, wayOf, judge}
-use Rattle.opening.specs.Faults.{FixedWrong, KeyedMarkerWrong, wrongOf}
+use Rattle.markers.proofs.Bare.{bare-length}
+use Rattle.records.proofs.Sizes.{record-least}
+use Rattle.opening.specs.Faults.{formerWrongOf, BareStands, WithdrawnWrong, FixedWrong, KeyedMarkerWrong, wrongOf}
 use Rattle.opening.specs.Statements.{FaultsOf}
 use Rattle.opening.proofs.Tests.{low, unknown, there, Openings, openings, opening-is, opened}
 use Rattle.opening.proofs.FixedFaults.{opened-faults}
@@ -163,8 +165,12 @@ judged-faults mode s n b = (told, is-told)
 cut-length : {s : List ℕ} {n : ℕ} → Checked s n → length (take (12 + n) s) ≡ 12 + n
 cut-length {s} {n} c = ap length (sym (same-window s n)) ∙ window-length c
 
+-- a record is longer than a marker that stands alone
+record-alone : {s : List ℕ} {p : ℕ} {r : Record} → Encoding (RecordBytes false) s p (length s) r → BareStands s p → ⊥
+record-alone {r = r} x (m, y) = omega (arith, record-least false (x .bytes) r (x .encodes), bare-length (y .encodes), x .stands .end, y .stands .end)
+
 pub keyed-unknown : KeyedUnknown
-unfolding wrongOf
+unfolding wrongOf formerWrongOf
 keyed-unknown s b = (λ e. told (batch-faults ControlMode.Keyed s 12 b (omega arith) .0 e), is-told)
   where
     told-marker : {n : ℕ} → Checked s n → 49 ≤ n → codec s ≡ 0 → attributesIn s 0 .control ≡ true → CountIs s 1
@@ -183,8 +189,8 @@ keyed-unknown s b = (λ e. told (batch-faults ControlMode.Keyed s 12 b (omega ar
           unknown = no-marker;
         }
 
-    told : BatchWrong KeyedMarkerWrong s 12 → UnknownKey s
-    told (BatchWrong.marker c l d t w x) = told-marker c l d t w x
+    told : BatchWrong (WithdrawnWrong KeyedMarkerWrong) s 12 → UnknownKey s
+    told (BatchWrong.marker c l d t w (WithdrawnWrong.as-before _ x)) = told-marker c l d t w x
     told (BatchWrong.records c l d t w x) = absurd (first-fault-numbers _ _ _ _ x .2 refl)
 
     is-told : UnknownKey s → judge ControlMode.Keyed s ≡ refused 12
@@ -192,4 +198,5 @@ keyed-unknown s b = (λ e. told (batch-faults ControlMode.Keyed s 12 b (omega ar
         let n = x .batchLength in
         let stands = subst (λ (q : ℕ). Encoding (RecordBytes false) (take (12 + n) s) 61 q (x .shows)) (sym (cut-length (x .checked))) (x .stands) in
         batch-faults ControlMode.Keyed s 12 b (omega arith) .1
-        (BatchWrong.marker (x .checked) (x .fields-there) (x .uncompressed) (x .control) (x .counted) (KeyedMarkerWrong.key stands (x .unknown)))
+        (BatchWrong.marker (x .checked) (x .fields-there) (x .uncompressed) (x .control) (x .counted)
+        (WithdrawnWrong.as-before (record-alone stands) (KeyedMarkerWrong.key stands (x .unknown))))

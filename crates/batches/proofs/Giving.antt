@@ -43,17 +43,17 @@ use Rattle.layout.proofs.Putting.{fixed-length}
 use Rattle.markers.specs.declared.ControlBatchRecord.{ControlBatchRecord}
 use Rattle.markers.specs.Markers.{viewMarker}
 use Rattle.layout.specs.declared.ControlMode.{ControlMode}
-use Rattle.markers.proofs.Forms.{forms-lawful}
-use Rattle.markers.specs.Forms.{sizeOf, writesOf}
+use Rattle.markers.proofs.Keyed.{control-size}
+use Rattle.markers.specs.Forms.{writtenControl, controlSize, writesOf}
 use Rattle.batches.specs.declared.ControlBatchOrRecords.{ControlBatchOrRecords}
-use Rattle.batches.specs.Writer.{markedSize, writtenContent, checkedBytes, batchLengthOf, writtenBatch, mostLength, viewWanted, contentAsked, batchGivenBy, batchGiven}
+use Rattle.batches.specs.Writer.{markedSize, writtenContent, checkedBytes, batchLengthOf, writtenBatch, mostLength, viewWanted, markerAsked, contentAsked, batchGivenBy, batchGiven}
 use Rattle.batches.proofs.Encodes.{many-within, content-length, shows}
 
 -- ---- the fixed fields and the body are the batch
 
-module _ (mode : ControlMode) (b : Batch Record) where
+module _ (b : Batch Record) where
   abbrev body : List ℕ
-  body = writtenContent mode (b .content)
+  body = writtenContent (b .content)
 
   -- the attributes and the count, as they are put
   abbrev pub attributesPut : ℤ
@@ -65,12 +65,12 @@ module _ (mode : ControlMode) (b : Batch Record) where
   attributes-are : attributesFor (b .fields) (controlBit (b .content)) ≡ attributesOf true 0 b
   attributes-are = omega arith
 
-  checked-is : checkedPart (b .fields) attributesPut countPut ++ body ≡ checkedBytes mode b
+  checked-is : checkedPart (b .fields) attributesPut countPut ++ body ≡ checkedBytes b
   unfolding checkedBytes timesBytes producerBytes concat
   checked-is = rw (← attributes-are) (simp (append-assoc, append-nil))
 
-  framed : (batchLength crc : ℕ) (checked : List ℕ) → batchLength ≡ batchLengthOf mode b → crc ≡ crc32c (checkedBytes mode b) → checked ≡ checkedBytes mode b
-      → frameBytes (b .fields) (pos batchLength) crc ++ checked ≡ writtenBatch mode b
+  framed : (batchLength crc : ℕ) (checked : List ℕ) → batchLength ≡ batchLengthOf b → crc ≡ crc32c (checkedBytes b) → checked ≡ checkedBytes b
+      → frameBytes (b .fields) (pos batchLength) crc ++ checked ≡ writtenBatch b
   unfolding writtenBatch frameBytes concat
   framed batchLength crc checked e f g = rw (e, f, g) (simp (append-assoc, append-nil))
 
@@ -78,13 +78,13 @@ module _ (mode : ControlMode) (b : Batch Record) where
   abbrev lengthPut : ℤ
   lengthPut = pos (unchecked + fixedChecked + length body)
 
-  before-is : fixedBefore (b .fields) lengthPut attributesPut countPut body ++ body ≡ writtenBatch mode b
+  before-is : fixedBefore (b .fields) lengthPut attributesPut countPut body ++ body ≡ writtenBatch b
   unfolding fixedBefore
   before-is =
       append-assoc (frameBytes (b .fields) lengthPut _) (checkedPart (b .fields) attributesPut countPut) body
-      ∙ framed _ _ _ (sym (content-length mode b)) (ap crc32c checked-is) checked-is
+      ∙ framed _ _ _ (sym (content-length b)) (ap crc32c checked-is) checked-is
 
-  pub written-length : length (writtenBatch mode b) ≡ fixedPart + length body
+  pub written-length : length (writtenBatch b) ≡ fixedPart + length body
   written-length =
       ap length (sym before-is)
       ∙ length-append (fixedBefore (b .fields) lengthPut attributesPut countPut body) body
@@ -94,9 +94,9 @@ module _ (mode : ControlMode) (b : Batch Record) where
   pub finished : (out out′ : List ℕ) (end : ℕ) (count : ℤ) (output : List ℕ) → end ≡ fixedPart + length body → end ≤ length out
       → out′ ≡ over fixedPart body out → count ≡ countPut
       → output ≡ fixedBefore (b .fields) (pos (end - uncounted)) attributesPut count (take (end - fixedPart) (drop fixedPart out′)) ++ drop fixedPart out′
-      → WriteBy (given (writtenBatch mode b)) 0 out (record { result = Written.Bytes end; output = output })
+      → WriteBy (given (writtenBatch b)) 0 out (record { result = Written.Bytes end; output = output })
   finished out out′ end count output ends room is same e =
-      let long : 0 + length (writtenBatch mode b) ≡ end = omega (arith, written-length) in
+      let long : 0 + length (writtenBatch b) ≡ end = omega (arith, written-length) in
       let rest : List ℕ = drop end out in
       let after : drop fixedPart out′ ≡ body ++ rest
       = ap (drop fixedPart) is
@@ -107,20 +107,20 @@ module _ (mode : ControlMode) (b : Batch Record) where
       let shown : take (end - fixedPart) (drop fixedPart out′) ≡ body
       = (λ i. take (size i) (after i)) ∙ take-at body rest (length body) refl in
       record {
-        answer = rw (le-leb (0 + length (writtenBatch mode b)) (length out) (omega arith)) (ap writes (omega arith));
+        answer = rw (le-leb (0 + length (writtenBatch b)) (length out) (omega arith)) (ap writes (omega arith));
         output =
             e
             ∙ (λ i. fixedBefore (b .fields) (pos (counted i)) attributesPut (same i) (shown i) ++ after i)
             ∙ sym (append-assoc (fixedBefore (b .fields) lengthPut attributesPut countPut body) body rest)
             ∙ (λ i. before-is i ++ drop (sym long i) out)
-            ∙ rw (le-leb (0 + length (writtenBatch mode b)) (length out) (omega arith));
+            ∙ rw (le-leb (0 + length (writtenBatch b)) (length out) (omega arith));
       }
 
   -- there is no room for it
   pub unfinished : (out : List ℕ) → length out < fixedPart + length body
-      → WriteBy (given (writtenBatch mode b)) 0 out (record { result = Written.Refused WriteFault.ShortOutput; output = out })
+      → WriteBy (given (writtenBatch b)) 0 out (record { result = Written.Refused WriteFault.ShortOutput; output = out })
   unfinished out h =
-      let short = lt-leb (0 + length (writtenBatch mode b)) (length out) (omega (arith, written-length)) in
+      let short = lt-leb (0 + length (writtenBatch b)) (length out) (omega (arith, written-length)) in
       record { answer = rw short; output = rw short }
 
 -- ---- a marker
@@ -128,91 +128,74 @@ module _ (mode : ControlMode) (b : Batch Record) where
 abbrev pub marks : Fields → Marker → Batch Record
 marks x m = record { fields = x; content = control m }
 
-pub marked-bare : (mode : ControlMode) → mode ≡ ControlMode.Bare → 65 ≡ markedSize mode
-marked-bare mode e = ap markedSize (sym e)
-
-pub marked-keyed : (mode : ControlMode) → mode ≡ ControlMode.Keyed → 72 ≡ markedSize mode
-marked-keyed mode e = ap markedSize (sym e)
-
-marker-length : (mode : ControlMode) (m : Marker) → length (writtenContent mode (control m)) ≡ sizeOf mode
+marker-length : (m : Marker) → length (writtenContent (control m)) ≡ controlSize
 unfolding writtenContent
-marker-length mode m = forms-lawful mode .size m
+marker-length m = control-size m
 
-pub size-small : (mode : ControlMode) → sizeOf mode ≤ 11
-size-small ControlMode.Bare = omega arith
-size-small ControlMode.Keyed = omega arith
+module _ (x : Fields) where
+  marked-length : (m : Marker) → length (writtenBatch (marks x m)) ≡ markedSize
+  marked-length m = omega (arith, written-length (marks x m), marker-length m)
 
--- it is neither too short nor too long to be finished
-pub marked-least : (mode : ControlMode) (n : ℕ) → n ≡ markedSize mode → fixedPart ≤ n
-marked-least mode n e = omega arith
-
-pub marked-most : (mode : ControlMode) (n : ℕ) → n ≡ markedSize mode → n ≤ uncounted + mostLength
-marked-most mode n e = omega (arith, size-small mode)
-
-module _ (mode : ControlMode) (x : Fields) where
-  pub marked-length : (m : Marker) → length (writtenBatch mode (marks x m)) ≡ markedSize mode
-  marked-length m = omega (arith, written-length mode (marks x m), marker-length mode m)
-
-  marker-given : (s : List ℕ) (m : Marker) (p : RowPlace) → batchGivenBy mode x s (ok (control m) p) ≡ given (writtenBatch mode (marks x m))
-  marker-given s m p =
-      rw (le-leb (batchLengthOf mode (marks x m)) mostLength (omega (arith, content-length mode (marks x m), marker-length mode m, size-small mode)))
+  marker-given : (s : List ℕ) (m : Marker) (p : RowPlace) → batchGivenBy x s (ok (control m) p) ≡ given (writtenBatch (marks x m))
+  marker-given s m p = rw (le-leb (batchLengthOf (marks x m)) mostLength (omega (arith, content-length (marks x m), marker-length m)))
 
 -- what was put into the output is in its place there
-module _ (mode : ControlMode) (x : Fields) (m : Marker) (out : List ℕ) where
-  pub marker-short : (n : ℕ) → n ≡ markedSize mode → length out < n → WriteBy (given (writtenBatch mode (marks x m))) 0 out (record { result = Written.Refused WriteFault.ShortOutput; output = out })
-  marker-short n size h = unfinished mode (marks x m) out (omega (arith, marker-length mode m))
+module _ (x : Fields) (m : Marker) (out : List ℕ) where
+  pub marker-short : length out < markedSize
+      → WriteBy (given (writtenBatch (marks x m))) 0 out (record { result = Written.Refused WriteFault.ShortOutput; output = out })
+  marker-short h = unfinished (marks x m) out (omega (arith, marker-length m))
 
-  pub marker-written : (n : ℕ) → n ≡ markedSize mode → (out′ : List ℕ) (next : ℕ) (output : List ℕ) → n ≤ length out
-      → PutPromise (writesOf mode m) out fixedPart (record { next = next; output = out′ })
-      → output ≡ fixedBefore x (pos (n - uncounted)) (pos (attributesFor x 1)) (pos 1) (take (n - fixedPart) (drop fixedPart out′)) ++ drop fixedPart out′
-      → WriteBy (given (writtenBatch mode (marks x m))) 0 out (record { result = Written.Bytes n; output = output })
+  pub marker-written : (out′ : List ℕ) (next : ℕ) (output : List ℕ) → markedSize ≤ length out
+      → PutPromise (writtenControl m) out fixedPart (record { next = next; output = out′ })
+      → output ≡ fixedBefore x (pos (markedSize - uncounted)) (pos (attributesFor x 1)) (pos 1) (take (markedSize - fixedPart) (drop fixedPart out′)) ++ drop fixedPart out′
+      → WriteBy (given (writtenBatch (marks x m))) 0 out (record { result = Written.Bytes markedSize; output = output })
   unfolding writtenContent
-  marker-written n size out′ next output room put e =
-      let four = marker-length mode m in
-      let is = emit-inside fixedPart out (writesOf mode m) next out′ (put-emits fixedPart out (writesOf mode m) next out′ put) (omega arith) in
-      finished mode (marks x m) out out′ n (pos 1) output (omega arith) room is refl e
+  marker-written out′ next output room put e =
+      let eleven = marker-length m in
+      let is = emit-inside fixedPart out (writtenControl m) next out′ (put-emits fixedPart out (writtenControl m) next out′ put) (omega arith) in
+      finished (marks x m) out out′ markedSize (pos 1) output (omega arith) room is refl e
 
 -- ---- what is given of records, and what of their batch
 
-data Beside (mode : ControlMode) (x : Fields) (s : List ℕ) (asked : Step RowPlace (List RecordSpans)) : Given → Given → Type 0 where
+data Beside (x : Fields) (s : List ℕ) (asked : Step RowPlace (List RecordSpans)) : Given → Given → Type 0 where
   both : (rs : List RecordSpans) (p : RowPlace) → asked ≡ ok rs p → length (writtenRecords (shownRecords s rs)) ≤ mostBytes
-      → Beside mode x s asked (given (writtenRecords (shownRecords s rs))) (given (writtenBatch mode (shows x s (records rs))))
-  neither : (n : ℕ) → 0 < n → Beside mode x s asked (refused n) (refused n)
+      → Beside x s asked (given (writtenRecords (shownRecords s rs))) (given (writtenBatch (shows x s (records rs))))
+  neither : (n : ℕ) → 0 < n → Beside x s asked (refused n) (refused n)
 
-rows-length : (mode : ControlMode) (x : Fields) (s : List ℕ) (rs : List RecordSpans)
-    → batchLengthOf mode (shows x s (records rs)) ≡ 49 + length (writtenRecords (shownRecords s rs))
+rows-length : (x : Fields) (s : List ℕ) (rs : List RecordSpans)
+    → batchLengthOf (shows x s (records rs)) ≡ 49 + length (writtenRecords (shownRecords s rs))
 unfolding writtenContent
-rows-length mode x s rs = content-length mode (shows x s (records rs))
+rows-length x s rs = content-length (shows x s (records rs))
 
-beside : (mode : ControlMode) (x : Fields) (s : List ℕ) (asked : Step RowPlace (List RecordSpans)) → RefusedBy RowFault asked
-    → Beside mode x s asked (recordsGiven s asked) (batchGivenBy mode x s (mapStep records asked))
-beside mode x s (ok rs p) w =
+beside : (x : Fields) (s : List ℕ) (asked : Step RowPlace (List RecordSpans)) → RefusedBy RowFault asked
+    → Beside x s asked (recordsGiven s asked) (batchGivenBy x s (mapStep records asked))
+beside x s (ok rs p) w =
     let bs = writtenRecords (shownRecords s rs) in
     let b = shows x s (records rs) in
-    let e = rows-length mode x s rs in
+    let e = rows-length x s rs in
     elim (decLe (length bs) mostBytes) [
-      | yes h ↦ rw (le-leb (length bs) mostBytes h, le-leb (batchLengthOf mode b) mostLength (omega arith)) (both rs p refl h)
+      | yes h ↦ rw (le-leb (length bs) mostBytes h, le-leb (batchLengthOf b) mostLength (omega arith)) (both rs p refl h)
       | Dec.no h ↦
-          rw (lt-leb (length bs) mostBytes (omega arith), lt-leb (batchLengthOf mode b) mostLength (omega arith)) (neither 23 (omega arith))
+          rw (lt-leb (length bs) mostBytes (omega arith), lt-leb (batchLengthOf b) mostLength (omega arith)) (neither 23 (omega arith))
     ]
-beside mode x s (no n) (l, h) = neither n (omega arith)
+beside x s (no n) (l, h) = neither n (omega arith)
 
 -- ---- measured
 
-rows-written-length : (mode : ControlMode) (x : Fields) (s : List ℕ) (rs : List RecordSpans)
-    → length (writtenBatch mode (shows x s (records rs))) ≡ fixedPart + length (writtenRecords (shownRecords s rs))
+rows-written-length : (x : Fields) (s : List ℕ) (rs : List RecordSpans)
+    → length (writtenBatch (shows x s (records rs))) ≡ fixedPart + length (writtenRecords (shownRecords s rs))
 unfolding writtenContent
-rows-written-length mode x s rs = written-length mode (shows x s (records rs))
+rows-written-length x s rs = written-length (shows x s (records rs))
 
-module _ {mode : ControlMode} {x : Fields} {s : List ℕ} {asked : Step RowPlace (List RecordSpans)} where
-  measured-bytes : {g h : Given} → Beside mode x s asked g h → (size : ℕ) → writes size ≡ measured g
+module _ {x : Fields} {s : List ℕ} {asked : Step RowPlace (List RecordSpans)} where
+  measured-bytes : {g h : Given} → Beside x s asked g h → (size : ℕ) → writes size ≡ measured g
       → (size ≤ mostBytes) × (writes (fixedPart + size) ≡ measured h)
   measured-bytes (both rs p is short) size e =
       let l : size ≡ length (writtenRecords (shownRecords s rs)) = ap (λ (a : Answer). a .bytes) e in
-      (omega arith, ap writes (omega (arith, rows-written-length mode x s rs)))
+      (omega arith, ap writes (omega (arith, rows-written-length x s rs)))
   measured-bytes (neither n some) size e = absurd (omega (arith, numbers e))
 
-  measured-refused : {g h : Given} → Beside mode x s asked g h → (f : WriteFault) → refuses (writeNumberOf f) ≡ measured g
+  measured-refused : {g h : Given} → Beside x s asked g h → (f : WriteFault) → refuses (writeNumberOf f) ≡ measured g
       → refuses (writeNumberOf f) ≡ measured h
   measured-refused (both rs p is short) f e = apart f e
   measured-refused (neither n some) f e = e
@@ -226,9 +209,9 @@ module _ (mode : ControlMode) (x : Fields) (codec : ℕ) (kind : ControlBatchOrR
   unfolding batchGiven
   codec-other h = rw (ne-eqb codec 0 h)
 
-  codec-none : codec ≡ 0 → (k : ControlBatchOrRecords) → kind ≡ k → gives ≡ batchGivenBy mode x s (contentAsked (viewWanted k) t s)
+  codec-none : codec ≡ 0 → (k : ControlBatchOrRecords) → kind ≡ k → gives ≡ batchGivenBy x s (contentAsked mode (viewWanted k) t s)
   unfolding batchGiven
-  codec-none e k f = rw (eq-eqb codec 0 e) (ap (λ (k : ControlBatchOrRecords). batchGivenBy mode x s (contentAsked (viewWanted k) t s)) f)
+  codec-none e k f = rw (eq-eqb codec 0 e) (ap (λ (k : ControlBatchOrRecords). batchGivenBy x s (contentAsked mode (viewWanted k) t s)) f)
 
   pub measure-codec : (codec ≡ 0 → ⊥) → refuses 20 ≡ measured gives
   measure-codec h = ap measured (sym (codec-other h))
@@ -240,25 +223,47 @@ module _ (mode : ControlMode) (x : Fields) (codec : ℕ) (kind : ControlBatchOrR
 
   module _ (e : codec ≡ 0) where
     module _ (m : ControlBatchRecord) (f : kind ≡ ControlBatchOrRecords.ControlBatch m) where
-      marker-gives : gives ≡ given (writtenBatch mode (marks x (viewMarker m)))
-      marker-gives = codec-none e (ControlBatchOrRecords.ControlBatch m) f ∙ marker-given mode x s (viewMarker m) (rowPlace 0 0)
+      -- in keyed mode
+      module _ (keyed : mode ≡ ControlMode.Keyed) where
+        marker-gives : gives ≡ given (writtenBatch (marks x (viewMarker m)))
+        unfolding writesOf
+        marker-gives =
+            codec-none e (ControlBatchOrRecords.ControlBatch m) f
+            ∙ ap (λ (k : ControlMode). batchGivenBy x s (markerAsked (writesOf k (viewMarker m)) (viewMarker m))) keyed
+            ∙ marker-given x s (viewMarker m) (rowPlace 0 0)
 
-      pub measure-marker : (n : ℕ) → n ≡ markedSize mode → writes n ≡ measured gives
-      measure-marker n size = ap writes (size ∙ sym (marked-length mode x (viewMarker m))) ∙ ap measured (sym marker-gives)
+        pub measure-marker : writes markedSize ≡ measured gives
+        measure-marker = ap writes (sym (marked-length x (viewMarker m))) ∙ ap measured (sym marker-gives)
 
-      pub write-marked : (out : List ℕ) (o : WriteOutcome) → WriteBy (given (writtenBatch mode (marks x (viewMarker m)))) 0 out o → WriteBy gives 0 out o
-      write-marked out o w = subst (λ (g : Given). WriteBy g 0 out o) (sym marker-gives) w
+        pub write-marked : (out : List ℕ) (o : WriteOutcome) → WriteBy (given (writtenBatch (marks x (viewMarker m)))) 0 out o → WriteBy gives 0 out o
+        write-marked out o w = subst (λ (g : Given). WriteBy g 0 out o) (sym marker-gives) w
+
+      -- in bare mode
+      module _ (bare : mode ≡ ControlMode.Bare) where
+        bare-gives : gives ≡ refused 41
+        unfolding writesOf
+        bare-gives =
+            codec-none e (ControlBatchOrRecords.ControlBatch m) f
+            ∙ ap (λ (k : ControlMode). batchGivenBy x s (markerAsked (writesOf k (viewMarker m)) (viewMarker m))) bare
+
+        pub measure-bare : refuses 41 ≡ measured gives
+        measure-bare = ap measured (sym bare-gives)
+
+        pub write-bare : (out : List ℕ) → WriteBy gives 0 out (record { result = Written.Refused WriteFault.BareMarker; output = out })
+        write-bare out =
+            subst (λ (g : Given). WriteBy g 0 out (record { result = Written.Refused WriteFault.BareMarker; output = out })) (sym bare-gives)
+            (record { answer = refl; output = refl })
 
     module _ (n : ℕ) (f : kind ≡ ControlBatchOrRecords.Records n) where
       abbrev asked : Step RowPlace (List RecordSpans)
       asked = recordsAsked t s 0 n
 
-      rows-give : gives ≡ batchGivenBy mode x s (mapStep records asked)
+      rows-give : gives ≡ batchGivenBy x s (mapStep records asked)
       rows-give = codec-none e (ControlBatchOrRecords.Records n) f
 
       module _ (r : Written) (p : viewWritten r ≡ measured (recordsGiven s asked)) where
-        known : Beside mode x s asked (recordsGiven s asked) (batchGivenBy mode x s (mapStep records asked))
-        known = beside mode x s asked (records-refused t s 0 n)
+        known : Beside x s asked (recordsGiven s asked) (batchGivenBy x s (mapStep records asked))
+        known = beside x s asked (records-refused t s 0 n)
 
         pub measure-rows : (size : ℕ) → r ≡ Written.Bytes size → writes (fixedPart + size) ≡ measured gives
         measure-rows size h = measured-bytes known size (ap viewWritten (sym h) ∙ p) .1 ∙ ap measured (sym rows-give)
@@ -266,17 +271,17 @@ module _ (mode : ControlMode) (x : Fields) (codec : ℕ) (kind : ControlBatchOrR
         pub measure-refused : (fault : WriteFault) → r ≡ Written.Refused fault → refuses (writeNumberOf fault) ≡ measured gives
         measure-refused fault h = measured-refused known fault (ap viewWritten (sym h) ∙ p) ∙ ap measured (sym rows-give)
 
-      pub write-asked : (out : List ℕ) (o : WriteOutcome) → WriteBy (batchGivenBy mode x s (mapStep records asked)) 0 out o → WriteBy gives 0 out o
+      pub write-asked : (out : List ℕ) (o : WriteOutcome) → WriteBy (batchGivenBy x s (mapStep records asked)) 0 out o → WriteBy gives 0 out o
       write-asked out o w = subst (λ (g : Given). WriteBy g 0 out o) (sym rows-give) w
 
-pub measured-small : (mode : ControlMode) (x : Fields) (t : Tables) (s : List ℕ) (n : ℕ) (r : Written) (size : ℕ)
+pub measured-small : (x : Fields) (t : Tables) (s : List ℕ) (n : ℕ) (r : Written) (size : ℕ)
     → viewWritten r ≡ measured (recordsGiven s (recordsAsked t s 0 n)) → r ≡ Written.Bytes size → size ≤ mostBytes
-measured-small mode x t s n r size p h =
-    measured-bytes (beside mode x s (recordsAsked t s 0 n) (records-refused t s 0 n)) size (ap viewWritten (sym h) ∙ p) .0
+measured-small x t s n r size p h =
+    measured-bytes (beside x s (recordsAsked t s 0 n) (records-refused t s 0 n)) size (ap viewWritten (sym h) ∙ p) .0
 
 -- ---- written
 
-module _ (mode : ControlMode) (x : Fields) (s : List ℕ) (asked : Step RowPlace (List RecordSpans)) (out out′ : List ℕ) where
+module _ (x : Fields) (s : List ℕ) (asked : Step RowPlace (List RecordSpans)) (out out′ : List ℕ) where
   -- the records stand in their place, and this is what is given of their batch
   record Wrote (size : ℕ) (g : Given) : Type 0 where
     rs : List RecordSpans
@@ -286,9 +291,9 @@ module _ (mode : ControlMode) (x : Fields) (s : List ℕ) (asked : Step RowPlace
     short : size ≤ mostBytes
     room : fixedPart + size ≤ length out
     output-is : out′ ≡ over fixedPart (writtenRecords (shownRecords s rs)) out
-    gives : g ≡ given (writtenBatch mode (shows x s (records rs)))
+    gives : g ≡ given (writtenBatch (shows x s (records rs)))
 
-  wrote : {g h : Given} → Beside mode x s asked g h → (size : ℕ) → writes size ≡ answerDue fixedPart out g → out′ ≡ outputDue fixedPart out g
+  wrote : {g h : Given} → Beside x s asked g h → (size : ℕ) → writes size ≡ answerDue fixedPart out g → out′ ≡ outputDue fixedPart out g
       → Wrote size h
   wrote (both rs p is short) size e f =
       let bs = writtenRecords (shownRecords s rs) in
@@ -307,33 +312,33 @@ module _ (mode : ControlMode) (x : Fields) (s : List ℕ) (asked : Step RowPlace
       }
   wrote (neither n some) size e f = absurd (omega (arith, numbers e))
 
-  refused-by : (room : Bool) (b : Batch Record) (f : WriteFault) (n : ℕ) → leb (fixedPart + length (writtenContent mode (b .content))) (length out) ≡ room
-      → refuses (writeNumberOf f) ≡ pick room (writes n) (refuses 24) → out′ ≡ pick room (over fixedPart (writtenContent mode (b .content)) out) out
-      → WriteBy (given (writtenBatch mode b)) 0 out (record { result = Written.Refused f; output = out′ })
+  refused-by : (room : Bool) (b : Batch Record) (f : WriteFault) (n : ℕ) → leb (fixedPart + length (writtenContent (b .content))) (length out) ≡ room
+      → refuses (writeNumberOf f) ≡ pick room (writes n) (refuses 24) → out′ ≡ pick room (over fixedPart (writtenContent (b .content)) out) out
+      → WriteBy (given (writtenBatch b)) 0 out (record { result = Written.Refused f; output = out′ })
   refused-by true b f n h e is = apart f e
   refused-by false b f n h e is =
-      let w = unfinished mode b out (leb-false _ _ h) in
+      let w = unfinished b out (leb-false _ _ h) in
       record { answer = e ∙ w .answer; output = is ∙ w .output }
 
-  not-wrote : {g h : Given} → Beside mode x s asked g h → (f : WriteFault) → refuses (writeNumberOf f) ≡ answerDue fixedPart out g
+  not-wrote : {g h : Given} → Beside x s asked g h → (f : WriteFault) → refuses (writeNumberOf f) ≡ answerDue fixedPart out g
       → out′ ≡ outputDue fixedPart out g → WriteBy h 0 out (record { result = Written.Refused f; output = out′ })
   unfolding writtenContent
   not-wrote (both rs p _ short) f e is = refused-by _ (shows x s (records rs)) f _ refl e is
   not-wrote (neither n some) f e is = record { answer = e; output = is }
 
-module _ (mode : ControlMode) (x : Fields) (t : Tables) (s : List ℕ) (n : ℕ) (r : Written) (out out′ : List ℕ)
+module _ (x : Fields) (t : Tables) (s : List ℕ) (n : ℕ) (r : Written) (out out′ : List ℕ)
     (p : WriteBy (recordsGiven s (recordsAsked t s 0 n)) fixedPart out (record { result = r; output = out′ })) where
   abbrev asked-rows : Step RowPlace (List RecordSpans)
   asked-rows = recordsAsked t s 0 n
 
   pub rows-refused : (f : WriteFault) → r ≡ Written.Refused f
-      → WriteBy (batchGivenBy mode x s (mapStep records asked-rows)) 0 out (record { result = Written.Refused f; output = out′ })
+      → WriteBy (batchGivenBy x s (mapStep records asked-rows)) 0 out (record { result = Written.Refused f; output = out′ })
   rows-refused f h =
-      not-wrote mode x s asked-rows out out′ (beside mode x s asked-rows (records-refused t s 0 n)) f (ap viewWritten (sym h) ∙ p .answer) (p .output)
+      not-wrote x s asked-rows out out′ (beside x s asked-rows (records-refused t s 0 n)) f (ap viewWritten (sym h) ∙ p .answer) (p .output)
 
   module _ (size : ℕ) (h : r ≡ Written.Bytes size) where
-    rows-wrote : Wrote mode x s asked-rows out out′ size (batchGivenBy mode x s (mapStep records asked-rows))
-    rows-wrote = wrote mode x s asked-rows out out′ (beside mode x s asked-rows (records-refused t s 0 n)) size (ap viewWritten (sym h) ∙ p .answer) (p .output)
+    rows-wrote : Wrote x s asked-rows out out′ size (batchGivenBy x s (mapStep records asked-rows))
+    rows-wrote = wrote x s asked-rows out out′ (beside x s asked-rows (records-refused t s 0 n)) size (ap viewWritten (sym h) ∙ p .answer) (p .output)
 
     abbrev batch : Batch Record
     batch = shows x s (records (rows-wrote .rs))
@@ -356,15 +361,15 @@ module _ (mode : ControlMode) (x : Fields) (t : Tables) (s : List ℕ) (n : ℕ)
         record {
           short = w .short;
           room = omega (arith, w .room, ap length (w .output-is), kept);
-          many = omega (arith, many-within mode (batch .content), many-is, w .short, w .size-is);
+          many = omega (arith, many-within (batch .content), many-is, w .short, w .size-is);
         }
 
     pub rows-written : (output : List ℕ)
         → output ≡ fixedBefore x (pos (fixedPart + size - uncounted)) (pos (attributesFor x 0)) (toZ w32 n) (take (fixedPart + size - fixedPart) (drop fixedPart out′)) ++ drop fixedPart out′
-        → WriteBy (batchGivenBy mode x s (mapStep records asked-rows)) 0 out (record { result = Written.Bytes (fixedPart + size); output = output })
+        → WriteBy (batchGivenBy x s (mapStep records asked-rows)) 0 out (record { result = Written.Bytes (fixedPart + size); output = output })
     unfolding writtenContent
     rows-written output e =
         let w = rows-wrote in
         let count = toZ-pos w32 n (rows-sizes .many) ∙ ap pos (sym many-is) in
         subst (λ (g : Given). WriteBy g 0 out (record { result = Written.Bytes (fixedPart + size); output = output })) (sym (w .gives))
-        (finished mode batch out out′ (fixedPart + size) (toZ w32 n) output (ap (λ (k : ℕ). fixedPart + k) (w .size-is)) (w .room) (w .output-is) count e)
+        (finished batch out out′ (fixedPart + size) (toZ w32 n) output (ap (λ (k : ℕ). fixedPart + k) (w .size-is)) (w .room) (w .output-is) count e)

@@ -16,7 +16,7 @@ pub mod Modes
 pub mod Numbers
 pub mod Only
 pub mod Own
-mod Parts
+pub mod Parts
 pub mod Passed
 pub mod Pieces
 mod Putting
@@ -29,9 +29,11 @@ pub mod Shifted
 pub mod Single
 pub mod Sizes
 pub mod Sound
+mod Standing
 pub mod Stands
 mod Storing
 mod Strictly
 pub mod Unambiguous
+pub mod Withdrawn
 pub mod WriteNumbers
 pub mod Written

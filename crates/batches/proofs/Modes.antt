@@ -24,6 +24,7 @@ use Rattle.markers.proofs.Forms.{forms-lawful}
 use Rattle.markers.proofs.Bare.{bare-length}
 use Rattle.markers.proofs.Keyed.{keyed-least}
 use Rattle.batches.specs.Statements.{ModesAgree, EarlyAgree, FormsApart}
+use Rattle.batches.proofs.Numbers.{late-least}
 use Rattle.batches.proofs.Sizes.{body-rest}
 
 -- ---- what was opened has the control bit of the list
@@ -70,7 +71,7 @@ module _ (mode mode′ : ControlMode) (s : List ℕ) (at first : ℕ) where
       → (judgedAs x first total (mapStep control y) ≡ more n → ⊥) × (n < 8 → judgedAs x first total (mapStep control y) ≡ refused n → ⊥)
   late-only x total w p n (ok m q) e = (λ f. more-not-accepted (sym f), λ l f. refused-not-accepted (sym f))
   late-only x total w p n (no k) e =
-      (λ f. more-not-refused (sym f), λ l f. let same : k ≡ n = cc in omega (arith, forms-lawful mode .late w p k e .0))
+      (λ f. more-not-refused (sym f), λ l f. let same : k ≡ n = cc in omega (arith, late-least (forms-lawful mode .late w p k e)))
 
   abbrev Early : ℕ → Judgement → Judgement → Type 0
   Early n j j′ = (j ≡ more n → j′ ≡ more n) × (n < 8 → j ≡ refused n → j′ ≡ refused n)

@@ -3,7 +3,7 @@
 use Prim.Native.Nat.{ℕ, _+_, _^_, _≤_, _<_}
 use mathlib.Core.Path.{_≡_, refl, ap, subst, transport, transport⁻¹}
 use mathlib.Core.Bool.{Bool, true}
-use mathlib.Core.Logic.{inl, inr}
+use mathlib.Core.Logic.{_⊎_, inl, inr}
 use mathlib.Core.List.{List}
 use native.Mathlib.Omega.{arith}
 use native.Mathlib.Nat.{zero-add}
@@ -15,27 +15,37 @@ use Rattle.primitives.specs.Reading.{signedBy}
 use Rattle.primitives.proofs.Windows.{big-window}
 use Rattle.records.proofs.Refusals.{refusal-within, records-refuses}
 use Rattle.layout.specs.Table.{Slot, table}
-use Rattle.opening.specs.Judgement.{wayOf, refused, accepted, unsignedIn, numberIn, attributesIn, is, below, Control, contentAt, judge}
+use Rattle.opening.specs.Judgement.{wayOf, refused, accepted, unsignedIn, numberIn, attributesIn, is, below, Control, contentAt, judgeWith, judge}
 use Rattle.opening.proofs.Tests.{Totals, low, unknown, there, is-false, is-not, Openings, no-attributes, unknown-codec, no-fields, low-count, compressed, wrong-count}
 use Rattle.layout.specs.declared.ControlMode.{ControlMode}
 use Rattle.markers.proofs.Forms.{forms-lawful}
-use Rattle.batches.specs.Answers.{Standing}
 use Rattle.batches.specs.Statements.{Within, Refusals, WaysWithin, Whole, sum, Checked, Below, FrontWrong, Numbers}
 use Rattle.batches.proofs.Refused.{Right, WholeRefusal, differs, unopened, unread, Refusal, unsized, sized, refusal, refused-is, content-no}
 
-field-within : {n : ℕ} → (8 ≤ n) × (n ≤ 13) → Standing n
-field-within (f, g) = (omega arith, g)
+pub late-least : {n : ℕ} → ((8 ≤ n) × (n ≤ 13)) ⊎ (n ≡ 41) → 8 ≤ n
+late-least (inl x) = x .0
+late-least (inr e) = omega arith
 
 pub ways-within : WaysWithin
-ways-within mode s p n e = field-within (forms-lawful mode .late s p n e)
+ways-within mode s p n e =
+    elim (forms-lawful mode .late s p n e) [
+      | inl (f, g) ↦ inl (omega arith, g)
+      | inr f ↦ inr f
+    ]
 
--- ---- none but 2 to 13
+-- ---- none but 2 to 13, and those of the way in which control batches are read
 
-total-within : {s : List ℕ} {at n : ℕ} → Totals s at (refused n) → Standing n
+abbrev Early : ℕ → Type 0
+Early n = (2 ≤ n) × (n ≤ 13)
+
+abbrev pub ByWay : Control → ℕ → Type 0
+ByWay way n = (s : List ℕ) × (p : ℕ) × (way s p ≡ no n)
+
+total-within : {s : List ℕ} {at n : ℕ} → Totals s at (refused n) → Early n
 total-within (low h e) = (omega arith, omega arith)
 total-within (unknown h e f m) = (omega arith, omega arith)
 
-opening-within : {s : List ℕ} {at n : ℕ} → Openings s at (no n) → Standing n
+opening-within : {s : List ℕ} {at n : ℕ} → Openings s at (no n) → Early n
 opening-within (no-attributes h) = (omega arith, omega arith)
 opening-within (unknown-codec h f) = (omega arith, omega arith)
 opening-within (no-fields h f g) = (omega arith, omega arith)
@@ -43,22 +53,29 @@ opening-within (low-count h f e) = (omega arith, omega arith)
 opening-within (compressed h c f w) = (omega arith, omega arith)
 opening-within (wrong-count h c t w f) = (omega arith, omega arith)
 
-module _ (way : Control) (within : Within way) where
-  whole-within : {s : List ℕ} {at n : ℕ} → WholeRefusal way s at n → Standing n
-  whole-within (differs c) = (omega arith, omega arith)
-  whole-within (unopened c f) = opening-within f
+module _ (way : Control) where
+  whole-within : {s : List ℕ} {at n : ℕ} → WholeRefusal way s at n → Early n ⊎ ByWay way n
+  whole-within (differs c) = inl (omega arith, omega arith)
+  whole-within (unopened c f) = inl (opening-within f)
   whole-within {s} {at} (unread {m} {p} {n} c f g) =
       elim (content-no way (attributesIn s at .control) s m p g) [
-        | inl e ↦ within s p n e
-        | inr e ↦ field-within (refusal-within (records-refuses s m p) e)
+        | inl e ↦ inr (s, p, e)
+        | inr e ↦ let (h, k) = refusal-within (records-refuses s m p) e in inl (omega arith, k)
       ]
 
-  refusal-stands : {s : List ℕ} {at n : ℕ} → Refusal way s at n → Standing n
-  refusal-stands (unsized t) = total-within t
-  refusal-stands (sized t w) = whole-within w
+  refusal-within-or-by : {s : List ℕ} {at n : ℕ} → Refusal way s at n → Early n ⊎ ByWay way n
+  refusal-within-or-by (unsized t) = inl (total-within t)
+  refusal-within-or-by (sized t w) = whole-within w
+
+  pub refused-by : (s : List ℕ) (at first n : ℕ) → judgeWith way s at first ≡ refused n → ((2 ≤ n) × (n ≤ 13)) ⊎ ByWay way n
+  refused-by s at first n e = refusal-within-or-by (refusal way s at first e)
 
 pub refusals : Refusals
-refusals way within s at first n e = refusal-stands way within (refusal way s at first e)
+refusals way within s at first n e =
+    elim (refused-by way s at first n e) [
+      | inl x ↦ inl x
+      | inr (w, p, f) ↦ within w p n f
+    ]
 
 -- ---- the batch's bytes alone say of it what the list says
 
@@ -84,16 +101,16 @@ window-length {s} {n} c = rw (length-take (0 + (12 + n)) s) (omega (arith, c .wh
 -- ---- numbers 2 to 7
 
 -- length and magic, the checksum, or what is met before the marker or the records
-data Early (s : List ℕ) : ℕ → Type 0 where
-  by-frame : {k : ℕ} → Totals s 0 (refused k) → Early s k
-  by-checksum : {n : ℕ} → Whole s n → (unsignedIn (table .crc) s 0 ≡ sum s n → ⊥) → Early s 4
-  by-fields : {n k : ℕ} → Checked s n → Openings (window s n) 0 (no k) → Early s k
+data Front (s : List ℕ) : ℕ → Type 0 where
+  by-frame : {k : ℕ} → Totals s 0 (refused k) → Front s k
+  by-checksum : {n : ℕ} → Whole s n → (unsignedIn (table .crc) s 0 ≡ sum s n → ⊥) → Front s 4
+  by-fields : {n k : ℕ} → Checked s n → Openings (window s n) 0 (no k) → Front s k
 
 -- the marker and the records refuse by later numbers
 content-late : (mode : ControlMode) (t : Bool) (s : List ℕ) (m p : ℕ) {k : ℕ} → contentAt (wayOf mode) t s m p ≡ no k → 8 ≤ k
 content-late mode t s m p e =
     elim (content-no (wayOf mode) t s m p e) [
-      | inl f ↦ forms-lawful mode .late s p _ f .0
+      | inl f ↦ late-least (forms-lawful mode .late s p _ f)
       | inr f ↦ refusal-within (records-refuses s m p) f .0
     ]
 
@@ -102,14 +119,14 @@ frame a =
     let f = a .framed in there (f .there) (f .length-is) (f .length-enough) (f .magic-is) (omega (arith, a .all-there))
 
 module _ (mode : ControlMode) {s : List ℕ} where
-  whole-early : {n k : ℕ} → Whole s n → WholeRefusal (wayOf mode) (window s n) 0 k → k < 8 → Early s k
+  whole-early : {n k : ℕ} → Whole s n → WholeRefusal (wayOf mode) (window s n) 0 k → k < 8 → Front s k
   whole-early {n} a (differs c) l = by-checksum a (λ e. c (transport⁻¹ (right-same s n (a .framed .length-enough)) e))
   whole-early {n} a (unopened c f) l =
       by-fields (record { whole = a; crc-is = transport (right-same s n (a .framed .length-enough)) c }) f
   whole-early {n} a (unread {m} {p} c f g) l =
       absurd (omega (arith, content-late mode (attributesIn (window s n) 0 .control) (window s n) m p g))
 
-  early : {k : ℕ} → Refusal (wayOf mode) s 0 k → k < 8 → Early s k
+  early : {k : ℕ} → Refusal (wayOf mode) s 0 k → k < 8 → Front s k
   early (unsized t) l = by-frame t
   early (sized (there {n} h e f m g) w) l =
       whole-early
@@ -119,7 +136,7 @@ module _ (mode : ControlMode) {s : List ℕ} where
       })
       w l
 
-  early-is : {k : ℕ} → Early s k → Refusal (wayOf mode) s 0 k
+  early-is : {k : ℕ} → Front s k → Refusal (wayOf mode) s 0 k
   early-is (by-frame t) = unsized t
   early-is (by-checksum {n} a c) =
       sized (frame a) (differs (λ e. c (transport (right-same s n (a .framed .length-enough)) e)))
@@ -141,7 +158,7 @@ module _ (s : List ℕ) where
 
   -- an early refusal says what document 01 says of its number
 
-  early-told : {k : ℕ} → Early s k → k ≤ 7 → FrontWrong s k
+  early-told : {k : ℕ} → Front s k → k ≤ 7 → FrontWrong s k
   early-told (by-frame (low h e)) l = FrontWrong.short h (below-is (numberIn (table .batchLength) s 0) e)
   early-told (by-frame (unknown h e f m)) l =
       FrontWrong.magic h (λ b. let l = subst (λ z. Below z 9) e b in omega arith) (is-false 2 (numberIn (table .magic) s 0) m)
@@ -165,7 +182,7 @@ module _ (s : List ℕ) where
 
   -- and is told by it
 
-  told-early : {k : ℕ} → FrontWrong s k → Early s k
+  told-early : {k : ℕ} → FrontWrong s k → Front s k
   told-early (FrontWrong.short h b) = by-frame (low h (is-below (numberIn (table .batchLength) s 0) b))
   told-early (FrontWrong.magic h b m) =
       let (n, e, f) = not-below (numberIn (table .batchLength) s 0) b in

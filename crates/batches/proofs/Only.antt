@@ -18,7 +18,7 @@ use Rattle.records.proofs.Shortest.{run-shortest}
 use Rattle.layout.specs.Batch.{Content, control, records, Batch}
 use Rattle.layout.specs.Format.{grammarOf, Counts, exactly, ContentBytes, BatchBytes}
 use Rattle.layout.specs.declared.ControlMode.{ControlMode}
-use Rattle.markers.proofs.Forms.{forms-lawful}
+use Rattle.markers.proofs.Forms.{forms-lawful, writes-one}
 use Rattle.batches.specs.Writer.{writtenContent, checkedBytes, batchLengthOf, writtenBatch, mostLength}
 use Rattle.batches.specs.Rewriting.{WrittenShortest, WrittenOnly}
 use Rattle.batches.proofs.Encodes.{content-length}
@@ -27,16 +27,16 @@ use Rattle.batches.proofs.Sizes.{body-rest}
 
 -- ---- the only one
 
-content-written : (mode : ControlMode) (bs : List ℕ) (c : Content Record) → ContentBytes (grammarOf mode) true bs c → bs ≡ writtenContent mode c
+content-written : (mode : ControlMode) (bs : List ℕ) (c : Content Record) → ContentBytes (grammarOf mode) true bs c → bs ≡ writtenContent c
 unfolding writtenContent
-content-written mode bs (control m) g = forms-lawful mode .strict bs m .0 g
+content-written mode bs (control m) g = writes-one mode m bs (forms-lawful mode .strict bs m .0 g)
 content-written mode bs (records rs) g = run-written bs rs g
 
 pub exact-count : {z : ℤ} {n : ℕ} → Counts true z n → z ≡ pos n
 exact-count exactly = refl
 
 module _ (mode : ControlMode) {bs : List ℕ} {b : Batch Record} (g : BatchBytes mode true bs b) where
-  checked-written : g .checked ≡ checkedBytes mode b
+  checked-written : g .checked ≡ checkedBytes b
   unfolding checkedBytes
   checked-written =
       let count = g .numbered .is ∙ ap (λ (z : ℤ). bigEndian 4 (complement 32 z)) (exact-count (g .counts)) in
@@ -48,7 +48,7 @@ module _ (mode : ControlMode) {bs : List ℕ} {b : Batch Record} (g : BatchBytes
       )
       ++ content-written mode (g .body) (b .content) (g .holds) i)
 
-  counted-length : length (g .counted) ≡ batchLengthOf mode b
+  counted-length : length (g .counted) ≡ batchLengthOf b
   unfolding batchLengthOf concat
   counted-length =
       ap length (g .countedIs)
@@ -60,7 +60,7 @@ module _ (mode : ControlMode) {bs : List ℕ} {b : Batch Record} (g : BatchBytes
         ap length checked-written,
       ))
 
-  pub batch-written : bs ≡ writtenBatch mode b
+  pub batch-written : bs ≡ writtenBatch b
   unfolding writtenBatch
   batch-written =
       let batchLength = g .batchLength .is ∙ ap (bigEndian 4) counted-length in
@@ -74,17 +74,17 @@ written-only mode bs bs′ b g h = batch-written mode g ∙ sym (batch-written m
 
 -- ---- the shortest
 
-content-shortest : (mode : ControlMode) (strict : Bool) (bs : List ℕ) (c : Content Record) → ContentBytes (grammarOf mode) strict bs c → length (writtenContent mode c) ≤ length bs
+content-shortest : (mode : ControlMode) (strict : Bool) (bs : List ℕ) (c : Content Record) → ContentBytes (grammarOf mode) strict bs c → length (writtenContent c) ≤ length bs
 unfolding writtenContent
-content-shortest mode strict bs (control m) g = forms-lawful mode .shortest strict bs m g
+content-shortest mode strict bs (control m) g = forms-lawful mode .shortest strict bs m g .1
 content-shortest mode strict bs (records rs) g = run-shortest strict bs rs g
 
 -- so a batch that has an encoding is not too long to be written
-pub batch-short : (mode : ControlMode) {strict : Bool} {bs : List ℕ} {b : Batch Record} → BatchBytes mode strict bs b → batchLengthOf mode b ≤ mostLength
+pub batch-short : (mode : ControlMode) {strict : Bool} {bs : List ℕ} {b : Batch Record} → BatchBytes mode strict bs b → batchLengthOf b ≤ mostLength
 batch-short mode {strict} {bs} {b} g =
     omega (
       arith,
-      content-length mode b,
+      content-length b,
       content-shortest mode strict (g .body) (b .content) (g .holds),
       body-rest g,
       ends (whole bs) g,

@@ -24,6 +24,7 @@ use Rattle.layout.specs.Batch.{Content, control, records, Batch}
 use Rattle.layout.specs.Format.{grammarOf, ContentBytes, BatchBytes, Grammar, BatchBytesWith}
 use Rattle.opening.specs.Judgement.{accepted, Accepted, judge}
 use Rattle.layout.specs.declared.ControlMode.{ControlMode}
+use Rattle.markers.proofs.Forms.{forms-lawful}
 use Rattle.batches.specs.Placed.{placedContent, shownContent, shownBatch}
 use Rattle.batches.specs.Answers.{roomsOf, hasRoom, stored}
 use Rattle.batches.specs.Writer.{batchLengthOf, writtenBatch, wantedOf, contentAsked, mostLength, batchGiven, ownTables}
@@ -47,21 +48,22 @@ content-inside : (mode : ControlMode) (strict : Bool) {s : List ℕ} {p q : ℕ}
 content-inside mode strict (control m) x g = tt
 content-inside mode strict (records rs) x g = records-inside x g
 
-content-writable : (mode : ControlMode) (strict : Bool) (bs : List ℕ) (v : Content Record) → ContentBytes (grammarOf mode) strict bs v → WritableContent v
-content-writable mode strict bs (control m) g = tt
+content-writable : (mode : ControlMode) (strict : Bool) (bs : List ℕ) (v : Content Record) → ContentBytes (grammarOf mode) strict bs v → WritableContent mode v
+content-writable mode strict bs (control m) g = forms-lawful mode .shortest strict bs m g .0
 content-writable mode strict bs (records rs) g = run-writable strict bs rs g
 
 -- ---- an accepted batch
 
 -- what is written of the batch that it shows
-abbrev pub rewritten : ControlMode → List ℕ → Accepted → List ℕ
-rewritten mode s b = writtenBatch mode (shownBatch s b)
+abbrev pub rewritten : List ℕ → Accepted → List ℕ
+rewritten s b = writtenBatch (shownBatch s b)
 
 pub record Own (mode : ControlMode) (s : List ℕ) (b : Accepted) : Type 0 where
   pub inside : ContentInside s (b .content)
-  pub short : batchLengthOf mode (shownBatch s b) ≤ mostLength
-  pub encodes : BatchBytes mode true (rewritten mode s b) (shownBatch s b)
-  pub within : length (rewritten mode s b) ≤ b .consumed
+  pub writable : WritableContent mode (shownBatch s b .content)
+  pub short : batchLengthOf (shownBatch s b) ≤ mostLength
+  pub encodes : BatchBytes mode true (rewritten s b) (shownBatch s b)
+  pub within : length (rewritten s b) ≤ b .consumed
   pub first : b .firstHeader ≡ 0
 
 pub in-width : {grammar : Grammar} {strict : Bool} {bs : List ℕ} {b : Batch Record} → BatchBytesWith grammar strict bs b → InWidth (b .fields)
@@ -83,12 +85,13 @@ own mode s b bytes j =
     let x = e .stands in
     let g = e .encodes in
     let content = shownContent s (b .content) in
-    let again =
-    shown-encodes mode s (b .fields) (b .content) bytes (content-writable mode false (g .body) content (g .holds)) (in-width g) (batch-short mode g) in
+    let writable = content-writable mode false (g .body) content (g .holds) in
+    let again = shown-encodes mode s (b .fields) (b .content) bytes writable (in-width g) (batch-short mode g) in
     record {
       inside =
           subst (ContentInside s) (ap (λ (a : Accepted). a .content) (sym is))
           (content-inside mode false content (parts-stand x g .body) (g .holds));
+      writable = writable;
       short = batch-short mode g;
       encodes = again;
       within = omega (arith, written-shortest mode false _ _ _ again g, x .end);
@@ -97,17 +100,18 @@ own mode s b bytes j =
 
 -- ---- asked for from its rows
 
-content-asked : (s : List ℕ) (c : Content RecordSpans) (t : Tables) → ContentInside s c → hasRoom c 0 (roomsOf t) ≡ true
-    → (p : RowPlace) × (contentAsked (wantedOf c) (stored c 0 t) s ≡ ok c p)
-content-asked s (control m) t i room = (rowPlace 0 0, refl)
-content-asked s (records rs) t i room =
+content-asked : (mode : ControlMode) (s : List ℕ) (c : Content RecordSpans) (t : Tables) → ContentInside s c
+    → WritableContent mode (shownContent s c) → hasRoom c 0 (roomsOf t) ≡ true
+    → (p : RowPlace) × (contentAsked mode (wantedOf c) (stored c 0 t) s ≡ ok c p)
+content-asked mode s (control m) t i w room = (rowPlace 0 0, rw w)
+content-asked mode s (records rs) t i w room =
     (rowPlace (length rs) (0 + headersIn rs), ap (mapStep records) (own-rows 0 rs t s (sym (room-is 0 rs t) ∙ room) i))
 
 pub own-given : {mode : ControlMode} {s : List ℕ} {b : Accepted} (t : Tables) → Own mode s b → hasRoom (b .content) 0 (roomsOf t) ≡ true
-    → batchGiven mode (b .fields) 0 (wantedOf (b .content)) (stored (b .content) 0 t) s ≡ given (rewritten mode s b)
+    → batchGiven mode (b .fields) 0 (wantedOf (b .content)) (stored (b .content) 0 t) s ≡ given (rewritten s b)
 unfolding batchGiven
 own-given {mode} {s} {b} t o room =
-    rw (content-asked s (b .content) t (o .inside) room .1, le-leb (batchLengthOf mode (shownBatch s b)) mostLength (o .short))
+    rw (content-asked mode s (b .content) t (o .inside) (o .writable) room .1, le-leb (batchLengthOf (shownBatch s b)) mostLength (o .short))
 
 -- ---- and from tables of just its rows
 
@@ -126,7 +130,7 @@ own-stored (control m) = refl
 own-stored (records rs) = refl
 
 pub own-tables-given : {mode : ControlMode} {s : List ℕ} {b : Accepted} → Own mode s b
-    → batchGiven mode (b .fields) 0 (wantedOf (b .content)) (ownTables (b .content)) s ≡ given (rewritten mode s b)
+    → batchGiven mode (b .fields) 0 (wantedOf (b .content)) (ownTables (b .content)) s ≡ given (rewritten s b)
 own-tables-given {mode} {s} {b} o =
     ap (λ (t : Tables). batchGiven mode (b .fields) 0 (wantedOf (b .content)) t s) (sym (own-stored (b .content)))
     ∙ own-given (blank (b .content)) o (blank-room (b .content))

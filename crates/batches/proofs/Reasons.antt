@@ -1,5 +1,5 @@
 -- "More bytes" comes only where a length says so, and "no room" only where a batch is accepted and a table is short:
--- the number of an answer tells which judgement it is by, since a refusal is by none but 2 to 13. Assumes nothing.
+-- the number of an answer tells which judgement it is by, since a refusal is by none but `Standing`. Assumes nothing.
 use Prim.Native.Nat.{ℕ, _+_, _/_, _<_}
 use mathlib.Core.Path.{_≡_, refl, sym, ap, _∙_, subst}
 use mathlib.Core.Bool.{true, false, true≢false}
@@ -23,6 +23,7 @@ use Rattle.batches.proofs.Numbers.{refusals, ways-within}
 use Rattle.batches.proofs.Shifted.{first-header-shifted}
 use Rattle.batches.proofs.Single.{view-read-injective}
 use Rattle.batches.proofs.Rooms.{room-short, short-room, Goes, wanting, refusing, roomy, cramped, goes, numbered}
+use Rattle.batches.proofs.Standing.{standing-apart}
 
 -- accepted with n records and m headers, for which there is no room
 abbrev Short : Judgement → Tables → ℕ → ℕ → Type 0
@@ -38,7 +39,7 @@ module _ (j : Judgement) (standing : (n : ℕ) → j ≡ refused n → Standing 
     where
       by : (x : Judgement) → j ≡ x → Goes t o x → x ≡ more n
       by _ q (wanting a _) = ap (λ (x : Answer). more (x .bytes)) (sym a ∙ w)
-      by _ q (refusing a _) = let (h, k) = standing _ q in absurd (omega (arith, numbered (sym a ∙ w), h))
+      by _ q (refusing a _) = let (h, k) = standing-apart (standing _ q) in absurd (omega (arith, numbered (sym a ∙ w), h))
       by _ q (roomy h a _) = absurd (omega (arith, numbered (sym a ∙ w)))
       by _ q (cramped h a _) = absurd (omega (arith, numbered (sym a ∙ w)))
 
@@ -47,7 +48,7 @@ module _ (j : Judgement) (standing : (n : ℕ) → j ≡ refused n → Standing 
     where
       by : (x : Judgement) → j ≡ x → Goes t o x → Short x t n m
       by _ q (wanting a _) = absurd (omega (arith, numbered (sym a ∙ w)))
-      by _ q (refusing a _) = let (h, k) = standing _ q in absurd (omega (arith, numbered (sym a ∙ w), k))
+      by _ q (refusing a _) = let (h, k) = standing-apart (standing _ q) in absurd (k (numbered (sym a ∙ w)))
       by _ q (roomy h a _) = absurd (omega (arith, numbered (sym a ∙ w)))
       by _ q (cramped {b} h a _) =
           (b, refl, ap (λ (x : Answer). x .records) (sym a ∙ w), ap (λ (x : Answer). x .headers) (sym a ∙ w), h)

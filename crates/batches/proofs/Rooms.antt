@@ -91,7 +91,7 @@ module _ (t t′ : Tables) (o o′ : ReadOutcome) where
           record { result = alike a (e′ .answer ∙ rw h′); due = a; tables = w; tables′ = e′ .tables ∙ rw h′ }
       by _ (cramped h a w) e′ = absurd (fourteen (numbered a))
 
-  -- an answer 1 to 13 is the same for all tables, and changes none
+  -- an answer other than 0 and 14 is the same for all tables, and changes none
   same-in-any : (j : Judgement) → ReadBy j t o → ReadBy j t′ o′ → (viewRead (o .result) .number ≡ 0 → ⊥)
       → (viewRead (o .result) .number ≡ 14 → ⊥) → (o′ .result ≡ o .result) × (o .tables ≡ t) × (o′ .tables ≡ t′)
   same-in-any j e e′ none fourteen = by j (goes j t o e) e′

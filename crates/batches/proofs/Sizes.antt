@@ -16,7 +16,7 @@ use Rattle.layout.specs.Format.{grammarOf, ContentBytes, Grammar, BatchBytesWit
 use Rattle.opening.specs.Judgement.{Accepted, wayOf}
 use Rattle.layout.specs.declared.ControlMode.{ControlMode}
 use Rattle.batches.specs.Placed.{shownContent}
-use Rattle.batches.specs.Statements.{MarkedSize, SizesOf, Sizes}
+use Rattle.batches.specs.Statements.{SizesOf, Sizes}
 use Rattle.batches.proofs.Passed.{passed}
 use Rattle.batches.proofs.Sound.{sound}
 
@@ -45,16 +45,9 @@ body-rest g =
       integer-length (g .numbered),
     ))
 
-marked-size : (mode : ControlMode) (strict : Bool) (bs : List ℕ) (m : Marker) → grammarOf mode strict bs m → (n : ℕ) → n ≡ 49 + length bs
-    → MarkedSize mode bs n
-unfolding grammarOf
-marked-size ControlMode.Bare strict bs m g n e =
-    omega (arith, e, ap length (g .is), length-append (g .version) (g .kind), integer-length (g .versioned), integer-length (g .typed))
-marked-size ControlMode.Keyed strict bs m g n e = e
-
 body-sizes : (mode : ControlMode) (strict : Bool) (bs : List ℕ) (c : Content Record) (g : ContentBytes (grammarOf mode) strict bs c) (n : ℕ) → n ≡ 49 + length bs
     → SizesOf mode strict bs c g n
-body-sizes mode strict bs (control m) g n e = marked-size mode strict bs m g n e
+body-sizes mode strict bs (control m) g n e = e
 body-sizes mode strict bs (records rs) g n e = e ∙ ap (λ (k : ℕ). 49 + k) (total-sizes g)
 
 pub sizes : Sizes

@@ -17,6 +17,7 @@ use Rattle.batches.specs.Placed.{shownBatch}
 use Rattle.batches.specs.Answers.{Answer, Standing, Rooms, roomsOf, answerOf, hasRoom, acceptedAs, lacksRoom}
 use Rattle.batches.specs.Statements.{Unambiguous, Never}
 use Rattle.batches.proofs.Complete.{complete}
+use Rattle.batches.proofs.Standing.{standing-apart}
 use Rattle.batches.proofs.Stands.{judge-stands}
 
 -- one judgement consumes one number of bytes and shows one batch
@@ -35,14 +36,14 @@ unambiguous mode strict strict′ bs rest a b g h =
 
 -- ---- no batch after a refusal
 
--- 0 and 14 are not among the numbers 2 to 13
+-- 0 and 14 are not among the numbers that stand
 room-not-standing : (room : Bool) (x y : Answer) → x .number ≡ 0 → y .number ≡ 14 → Standing (pick room x y .number) → ⊥
-room-not-standing true x y e f (l, h) = omega arith
-room-not-standing false x y e f (l, h) = omega arith
+room-not-standing true x y e f s = omega (arith, standing-apart s .0)
+room-not-standing false x y e f s = standing-apart s .1 f
 
 -- so these numbers are refusals
 standing-refused : (j : Judgement) (r : Rooms) → Standing (answerOf j r .number) → (n : ℕ) × (j ≡ refused n)
-standing-refused (more n) r (l, h) = absurd (omega arith)
+standing-refused (more n) r s = absurd (omega (arith, standing-apart s .0))
 standing-refused (refused n) r x = (n, refl)
 standing-refused (accepted b) r x =
     absurd (room-not-standing (hasRoom (b .content) (b .firstHeader) r) (acceptedAs b) (lacksRoom _ _) refl refl x)

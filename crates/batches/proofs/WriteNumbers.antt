@@ -21,35 +21,41 @@ use Rattle.records.specs.Judgement.{RecordSpans}
 use Rattle.records.specs.Rows.{Tables}
 use Rattle.asking.specs.Asked.{RowPlace, recordsAsked}
 use Rattle.asking.specs.RowFaults.{AskedWrong}
-use Rattle.asking.proofs.Refusals.{RowFault}
+use Rattle.asking.proofs.Refusals.{RowFault, records-refused}
 use Rattle.asking.proofs.RowFaults.{row-faults}
 use Rattle.writing.specs.Answers.{Answer, writes, refuses, viewWritten, given, refused, answerDue}
 use Rattle.writing.proofs.Outcomes.{numbers}
 use Rattle.layout.specs.Table.{uncounted}
-use Rattle.layout.specs.Batch.{Content, records, Batch}
+use Rattle.layout.specs.Batch.{Marker, Content, records, Batch}
 use Rattle.layout.specs.declared.ControlMode.{ControlMode}
+use Rattle.markers.specs.Forms.{writesOf}
 use Rattle.batches.specs.Answers.{viewFields}
-use Rattle.batches.specs.Writer.{batchLengthOf, writtenBatch, Wanted, marker, rows, viewWanted, contentAsked, mostLength, batchGiven}
+use Rattle.batches.specs.Writer.{batchLengthOf, writtenBatch, Wanted, marker, rows, viewWanted, markerAsked, contentAsked, mostLength, batchGiven}
 use Rattle.batches.specs.Request.{Request}
-use Rattle.batches.specs.Rewriting.{batchAsked, RowsRefusedBy, AsksLength, WriteNumbers}
+use Rattle.batches.specs.Rewriting.{batchAsked, RowsRefusedBy, AsksBareMarker, AsksLength, WriteNumbers}
 use Rattle.batches.proofs.Encodes.{content-length}
 use Rattle.batches.proofs.Giving.{written-length}
-use Rattle.batches.proofs.Written.{content-refused}
 
 -- ---- what is refused by a wrong row
 
-module _ (t : Tables) (s : List ℕ) where
-  row-wrong : (w : Wanted) {n : ℕ} → contentAsked w t s ≡ no n → (count : ℕ) × (w ≡ rows count) × AskedWrong t s 0 count n
-  row-wrong (marker m) e = ok-not-no e
-  row-wrong (rows count) {n} e = (count, refl, row-faults t s 0 count n .0 (map-no records (recordsAsked t s 0 count) e))
-
-  wrong-row : (w : Wanted) (count : ℕ) {n : ℕ} → w ≡ rows count → AskedWrong t s 0 count n → contentAsked w t s ≡ no n
+module _ (mode : ControlMode) (t : Tables) (s : List ℕ) where
+  wrong-row : (w : Wanted) (count : ℕ) {n : ℕ} → w ≡ rows count → AskedWrong t s 0 count n → contentAsked mode w t s ≡ no n
   wrong-row w count {n} e x = rw (e, row-faults t s 0 count n .1 x)
+
+  wrong-marker : (w : Wanted) (m : Marker) → w ≡ marker m → mode ≡ ControlMode.Bare → contentAsked mode w t s ≡ no 41
+  unfolding writesOf
+  wrong-marker w m e f = rw (e, f)
+
+-- a marker is refused in one mode, and by one number
+marker-refused : (mode : ControlMode) (m : Marker) {n : ℕ} → markerAsked (writesOf mode m) m ≡ no n → (mode ≡ ControlMode.Bare) × (41 ≡ n)
+unfolding writesOf
+marker-refused ControlMode.Bare m e = (refl, cc)
+marker-refused ControlMode.Keyed m e = ok-not-no e
 
 -- ---- what is answered of a batch of some length
 
-lengths-are : (mode : ControlMode) (b : Batch Record) → length (writtenBatch mode b) ≡ uncounted + batchLengthOf mode b
-lengths-are mode b = omega (arith, written-length mode b, content-length mode b)
+lengths-are : (b : Batch Record) → length (writtenBatch b) ≡ uncounted + batchLengthOf b
+lengths-are b = omega (arith, written-length b, content-length b)
 
 -- by whether the length is within its field, and within the output
 abbrev byLengths : Bool → Bool → ℕ → Answer
@@ -69,6 +75,7 @@ length-by false room n e = absurd (omega arith)
 
 data Told (q : Request) (out : List ℕ) : ℕ → Type 0 where
   by-codec : (q .codec ≡ 0 → ⊥) → Told q out 20
+  by-marker : AsksBareMarker q → Told q out 41
   by-row : RowsRefusedBy q 21 → Told q out 21
   by-key : RowsRefusedBy q 22 → Told q out 22
   by-length : {n : ℕ} → AsksLength q n → mostLength < n → Told q out 23
@@ -77,15 +84,33 @@ data Told (q : Request) (out : List ℕ) : ℕ → Type 0 where
 
 module _ (q : Request) (out : List ℕ) where
   abbrev asked : Step RowPlace (Content RecordSpans)
-  asked = contentAsked (viewWanted (q .kind)) (q .tables) (q .source)
+  asked = contentAsked (q .mode) (viewWanted (q .kind)) (q .tables) (q .source)
 
   abbrev due : Answer
   due = answerDue 0 out (batchGiven (q .mode) (viewFields (q .batch)) (q .codec) (viewWanted (q .kind)) (q .tables) (q .source))
 
   -- one of these is so
-  told-by : q .codec ≡ 0 → (x : Step RowPlace (Content RecordSpans)) → asked ≡ x → RefusedBy RowFault x → (k : ℕ) × Told q out k
-  told-by e (ok c p) f w =
-      let n : ℕ = batchLengthOf (q .mode) (batchAsked q c) in
+  told-rows : q .codec ≡ 0 → (count : ℕ) → viewWanted (q .kind) ≡ rows count → (n : ℕ) → recordsAsked (q .tables) (q .source) 0 count ≡ no n
+      → RowFault n → (k : ℕ) × Told q out k
+  told-rows e count is n f (l, h) =
+      let wrong : AskedWrong (q .tables) (q .source) 0 count n = row-faults (q .tables) (q .source) 0 count n .0 f in
+      elim (ℕ-discrete n 21) [
+        | yes g ↦ (21, by-row (e, (count, is, subst (AskedWrong (q .tables) (q .source) 0 count) g wrong)))
+        | Dec.no g ↦
+            let g′ : n ≡ 22 = omega arith in
+            (22, by-key (e, (count, is, subst (AskedWrong (q .tables) (q .source) 0 count) g′ wrong)))
+      ]
+
+  told-no : q .codec ≡ 0 → (w : Wanted) → viewWanted (q .kind) ≡ w → (n : ℕ) → contentAsked (q .mode) w (q .tables) (q .source) ≡ no n
+      → (k : ℕ) × Told q out k
+  told-no e (marker m) is n f = (41, by-marker (e, marker-refused (q .mode) m f .0, (m, is)))
+  told-no e (rows count) is n f =
+      let i = map-no records (recordsAsked (q .tables) (q .source) 0 count) f in
+      told-rows e count is n i (subst (RefusedBy RowFault) i (records-refused (q .tables) (q .source) 0 count))
+
+  told-by : q .codec ≡ 0 → (x : Step RowPlace (Content RecordSpans)) → asked ≡ x → (k : ℕ) × Told q out k
+  told-by e (ok c p) f =
+      let n : ℕ = batchLengthOf (batchAsked q c) in
       let a : AsksLength q n = record { codec-none = e; content = c; asked = record { place = p; is = f }; length-is = refl } in
       elim (decLe n mostLength) [
         | yes h ↦
@@ -95,18 +120,12 @@ module _ (q : Request) (out : List ℕ) where
             ]
         | Dec.no h ↦ (23, by-length a (omega arith))
       ]
-  told-by e (no n) f (l, h) =
-      elim (ℕ-discrete n 21) [
-        | yes g ↦ (21, by-row (e, row-wrong (q .tables) (q .source) (viewWanted (q .kind)) (f ∙ ap no g)))
-        | Dec.no g ↦
-            let g′ : n ≡ 22 = omega arith in
-            (22, by-key (e, row-wrong (q .tables) (q .source) (viewWanted (q .kind)) (f ∙ ap no g′)))
-      ]
+  told-by e (no n) f = told-no e (viewWanted (q .kind)) refl n f
 
   told : (k : ℕ) × Told q out k
   told =
       elim (ℕ-discrete (q .codec) 0) [
-        | yes e ↦ told-by e asked refl (content-refused (viewWanted (q .kind)) (q .tables) (q .source))
+        | yes e ↦ told-by e asked refl
         | Dec.no h ↦ (20, by-codec h)
       ]
 
@@ -114,20 +133,26 @@ module _ (q : Request) (out : List ℕ) where
   refused-due : {k : ℕ} → RowsRefusedBy q k → due ≡ refuses k
   unfolding batchGiven
   refused-due (e, (count, is, x)) =
-      rw (eq-eqb (q .codec) 0 e, wrong-row (q .tables) (q .source) (viewWanted (q .kind)) count is x) refl
+      rw (eq-eqb (q .codec) 0 e, wrong-row (q .mode) (q .tables) (q .source) (viewWanted (q .kind)) count is x) refl
+
+  marker-due : AsksBareMarker q → due ≡ refuses 41
+  unfolding batchGiven
+  marker-due (e, is, (m, f)) =
+      rw (eq-eqb (q .codec) 0 e, wrong-marker (q .mode) (q .tables) (q .source) (viewWanted (q .kind)) m f is) refl
 
   length-due : {n : ℕ} → AsksLength q n → due ≡ byLengths (leb n mostLength) (leb (uncounted + n) (length out)) (uncounted + n)
   unfolding batchGiven
   length-due {n} a =
       let b : Batch Record = batchAsked q (a .content) in
-      let long : length (writtenBatch (q .mode) b) ≡ uncounted + n = lengths-are (q .mode) b ∙ ap (λ (k : ℕ). uncounted + k) (a .length-is) in
+      let long : length (writtenBatch b) ≡ uncounted + n = lengths-are b ∙ ap (λ (k : ℕ). uncounted + k) (a .length-is) in
       rw (eq-eqb (q .codec) 0 (a .codec-none), a .asked .is)
-      (due-by (leb (batchLengthOf (q .mode) b) mostLength) (writtenBatch (q .mode) b) out (uncounted + n) long
+      (due-by (leb (batchLengthOf b) mostLength) (writtenBatch b) out (uncounted + n) long
       ∙ ap (λ (k : ℕ). byLengths (leb k mostLength) (leb (uncounted + n) (length out)) (uncounted + n)) (a .length-is))
 
   told-due : {k : ℕ} → Told q out k → due .number ≡ k
   unfolding batchGiven
   told-due (by-codec h) = rw (ne-eqb (q .codec) 0 h) refl
+  told-due (by-marker f) = numbers (marker-due f)
   told-due (by-row f) = numbers (refused-due f)
   told-due (by-key f) = numbers (refused-due f)
   told-due (by-length {n} a h) = numbers (length-due a) ∙ rw (lt-leb n mostLength h) refl
@@ -152,6 +177,9 @@ module _ {q : Request} {out : List ℕ} where
   codec-told : Told q out 20 → q .codec ≡ 0 → ⊥
   codec-told (by-codec h) = h
 
+  marker-told : Told q out 41 → AsksBareMarker q
+  marker-told (by-marker f) = f
+
   row-told : Told q out 21 → RowsRefusedBy q 21
   row-told (by-row f) = f
 
@@ -167,12 +195,13 @@ module _ {q : Request} {out : List ℕ} where
   none-told : Told q out 0 → (n : ℕ) × AsksLength q n × (n ≤ mostLength) × (uncounted + n ≤ length out)
   none-told (by-none {n} a h g) = (n, a, h, g)
 
-  told-within : {k : ℕ} → Told q out k → (k ≡ 0) ⊎ ((20 ≤ k) × (k ≤ 24))
-  told-within (by-codec h) = inr (omega arith, omega arith)
-  told-within (by-row f) = inr (omega arith, omega arith)
-  told-within (by-key f) = inr (omega arith, omega arith)
-  told-within (by-length a h) = inr (omega arith, omega arith)
-  told-within (by-output a h g) = inr (omega arith, omega arith)
+  told-within : {k : ℕ} → Told q out k → (k ≡ 0) ⊎ (((20 ≤ k) × (k ≤ 24)) ⊎ (k ≡ 41))
+  told-within (by-codec h) = inr (inl (omega arith, omega arith))
+  told-within (by-marker f) = inr (inr refl)
+  told-within (by-row f) = inr (inl (omega arith, omega arith))
+  told-within (by-key f) = inr (inl (omega arith, omega arith))
+  told-within (by-length a h) = inr (inl (omega arith, omega arith))
+  told-within (by-output a h g) = inr (inl (omega arith, omega arith))
   told-within (by-none a h g) = inl refl
 
 pub write-numbers : WriteNumbers
@@ -181,6 +210,7 @@ write-numbers q out o w =
     let e = w .by .answer in
     record {
       twenty = exactly q out a e codec-told by-codec;
+      forty-one = exactly q out a e marker-told by-marker;
       twenty-one = exactly q out a e row-told by-row;
       twenty-two = exactly q out a e key-told by-key;
       twenty-three = exactly q out a e length-told (λ (n, x, h). by-length x h);

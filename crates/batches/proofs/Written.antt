@@ -26,8 +26,9 @@ use Rattle.writing.proofs.Single.{single-written}
 use Rattle.writing.proofs.Outcomes.{Numbered, numbers, put}
 use Rattle.layout.specs.Batch.{Fields, Content, records}
 use Rattle.layout.specs.declared.ControlMode.{ControlMode}
+use Rattle.markers.specs.Forms.{writesOf}
 use Rattle.batches.specs.Answers.{viewFields}
-use Rattle.batches.specs.Writer.{batchLengthOf, writtenBatch, Wanted, marker, rows, viewWanted, contentAsked, mostLength, batchGivenBy, batchGiven}
+use Rattle.batches.specs.Writer.{batchLengthOf, writtenBatch, Wanted, marker, rows, viewWanted, rowsAsked, contentAsked, mostLength, batchGivenBy, batchGiven}
 use Rattle.batches.specs.Request.{Request}
 use Rattle.batches.specs.Rewriting.{WrittenAs, Written, WriteUntouched, WriteMeasures, MarkerAlone}
 use Rattle.batches.proofs.Encodes.{shows}
@@ -39,21 +40,28 @@ pub pick-numbered : (t : Bool) (g : Given) (n : ℕ) → Numbered g → 0 < n �
 pick-numbered true g n w h = w
 pick-numbered false g n w h = h
 
-given-by-numbered : (mode : ControlMode) (x : Fields) (s : List ℕ) (asked : Step RowPlace (Content RecordSpans)) → RefusedBy RowFault asked
-    → Numbered (batchGivenBy mode x s asked)
-given-by-numbered mode x s (ok c p) w =
-    pick-numbered (leb (batchLengthOf mode (shows x s c)) mostLength) (given (writtenBatch mode (shows x s c))) 23 tt (omega arith)
-given-by-numbered mode x s (no n) (l, h) = omega arith
+given-by-numbered : (x : Fields) (s : List ℕ) (asked : Step RowPlace (Content RecordSpans)) → RefusedBy (λ n. 0 < n) asked
+    → Numbered (batchGivenBy x s asked)
+given-by-numbered x s (ok c p) w =
+    pick-numbered (leb (batchLengthOf (shows x s c)) mostLength) (given (writtenBatch (shows x s c))) 23 tt (omega arith)
+given-by-numbered x s (no n) h = h
 
-pub content-refused : (wanted : Wanted) (t : Tables) (s : List ℕ) → RefusedBy RowFault (contentAsked wanted t s)
-content-refused (marker m) t s = tt
-content-refused (rows n) t s = map-refused RowFault records (recordsAsked t s 0 n) (records-refused t s 0 n)
+row-numbered : {P A : Type 0} (x : Step P A) → RefusedBy RowFault x → RefusedBy (λ n. 0 < n) x
+row-numbered (ok a p) w = tt
+row-numbered (no n) (l, h) = omega arith
+
+content-refused : (mode : ControlMode) (wanted : Wanted) (t : Tables) (s : List ℕ) → RefusedBy (λ n. 0 < n) (contentAsked mode wanted t s)
+unfolding writesOf
+content-refused ControlMode.Bare (marker m) t s = omega arith
+content-refused ControlMode.Keyed (marker m) t s = tt
+content-refused mode (rows n) t s =
+    row-numbered (rowsAsked n t s) (map-refused RowFault records (recordsAsked t s 0 n) (records-refused t s 0 n))
 
 pub given-numbered : (mode : ControlMode) (x : Fields) (codec : ℕ) (wanted : Wanted) (t : Tables) (s : List ℕ) → Numbered (batchGiven mode x codec wanted t s)
 unfolding batchGiven
 given-numbered mode x codec wanted t s =
-    pick-numbered (eqb codec 0) (batchGivenBy mode x s (contentAsked wanted t s)) 20
-    (given-by-numbered mode x s (contentAsked wanted t s) (content-refused wanted t s)) (omega arith)
+    pick-numbered (eqb codec 0) (batchGivenBy x s (contentAsked mode wanted t s)) 20
+    (given-by-numbered x s (contentAsked mode wanted t s) (content-refused mode wanted t s)) (omega arith)
 
 -- ---- what was given
 
@@ -119,5 +127,6 @@ write-measures q out o r e f = measures _ out o r (e .by) f
 -- ---- markers
 
 pub marker-alone : MarkerAlone
-unfolding batchGiven
-marker-alone mode x codec m t t′ s s′ = refl
+unfolding batchGiven writesOf
+marker-alone ControlMode.Bare x codec m t t′ s s′ = refl
+marker-alone ControlMode.Keyed x codec m t t′ s s′ = refl

@@ -1,6 +1,8 @@
 -- What each public answer says, case by case: document 01's number, and the values that it names.
 use Prim.Native.Nat.{ℕ, _/_, _≤_}
+use mathlib.Core.Path.{_≡_}
 use mathlib.Core.Bool.{Bool, true}
+use mathlib.Core.Logic.{_⊎_}
 use mathlib.Core.Option.{Option, none, some}
 use lib.ListN.{length}
 use Rattle.numbers.specs.Pick.{pick}
@@ -18,9 +20,9 @@ use Rattle.batches.specs.declared.BatchRead.{BatchRead}
 
 -- ---- the reader's numbers
 
--- the numbers of refusals that no later byte and no other table can change
+-- the numbers of refusals that no later byte and no other table can change: 2 to 13, and C-24's 41
 abbrev pub Standing : ℕ → Type 0
-Standing n = (2 ≤ n) × (n ≤ 13)
+Standing n = ((2 ≤ n) × (n ≤ 13)) ⊎ (n ≡ 41)
 
 -- ---- what an answer names
 

@@ -1,16 +1,17 @@
 -- Demand 3. The user's words, sentence by sentence, each followed by its statement. What proves each stands in proofs/
 -- under the statement's name in small letters: `stands : Stands`.
 --
--- The words that are used: `judge` (crates/opening/specs/Judgement.antt) is what document 01, as C-16 has it, answers
--- where rows are enough, which is demand 2's answer (Demand2.antt says it by Kafka's format alone). Each statement of a
--- function begins with the mode, by which a control batch's marker stands alone or in the key of a record; that of the
--- writer has it in what is handed to it (`Request`). `ReadPromise` (Promises.antt) is what `RecordBatch::read` promises
--- on some bytes and some tables: its result, and both tables at exit. A result says document 01's number and the values
--- named with it (`viewRead`, Answers.antt). A longer beginning is `s ++ after`.
+-- The words that are used: `judge` (crates/opening/specs/Judgement.antt) is what document 01, as C-16 and C-24 have it,
+-- answers where rows are enough, which is demand 2's answer (Demand2.antt says it by Kafka's format alone). Each
+-- statement of a function begins with the mode, by which a control batch is read: none in bare mode, and in keyed mode
+-- one whose marker is the key of a record; that of the writer has it in what is handed to it (`Request`). `ReadPromise`
+-- (Promises.antt) is what `RecordBatch::read` promises on some bytes and some tables: its result, and both tables at
+-- exit. A result says document 01's number and the values named with it (`viewRead`, Answers.antt). A longer beginning
+-- is `s ++ after`.
 --
 -- Of the first three sentences each is a statement of a judging function, and is then claimed for `judge`, the public
 -- reader's, and for every way of reading control batches, every place of the batch's first byte and every row of its
--- first header. (Where a number names the answer, the way is one that refuses by none but 2 to 13: `Within`,
+-- first header. (Where a number names the answer, the way is one that refuses by none but `Standing`: `Within`,
 -- Statements.antt.) The last sentence is of the public reader and the public writer.
 use Prim.Native.Nat.{ℕ, _+_, _/_, _<_, _≤_}
 use mathlib.Core.Path.{_≡_}
@@ -124,7 +125,8 @@ NoRoomStands = (mode : ControlMode) → NoRoomStandsBy (ReadPromise mode)
 abbrev pub NoRoomStandsWith : Type 0
 NoRoomStandsWith = (way : Control) (at first : ℕ) → NoRoomStandsBy (readingWith way at first)
 
--- Document 01: "Numbers 2 to 13 never depend on room. Every refusal changes no table". An answer 1 to 13 is the same
+-- Document 01: "Numbers 2 to 13 never depend on room. Every refusal changes no table"; 41 is counted among them (C-24).
+-- An answer other than 0 and 14 is the same
 -- for every pair of tables, smaller ones too, and leaves them as they are.
 abbrev RoomFreeBy : Reading → Type 0
 RoomFreeBy Reads =

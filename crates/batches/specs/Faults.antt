@@ -1,5 +1,5 @@
--- The first fault of a batch after its checksum, numbers 8 to 13, said by the format alone: its fixed part, its marker
--- or its records.
+-- The first fault of a batch after its checksum, numbers 8 to 13 and 41, said by the format alone: its fixed part, its
+-- marker or its records.
 use Prim.Native.Nat.{ℕ, _+_, _<_, _≤_}
 use mathlib.Core.Path.{_≡_}
 use mathlib.Core.Bool.{true, false}

@@ -1,5 +1,6 @@
--- The reader's numbers 2 to 13, each given exactly where the format alone says, in words and then as a statement. What
--- proves each stands in proofs/ under the statement's name in small letters: `batch-faults : BatchFaults`.
+-- The reader's numbers that stand, 2 to 13 and 41, each given exactly where the format alone says, in words and then as
+-- a statement. What proves each stands in proofs/ under the statement's name in small letters: `batch-faults :
+-- BatchFaults`.
 use Prim.Native.Nat.{ℕ, _+_, _≤_}
 use mathlib.Core.Path.{_≡_}
 use mathlib.Core.Bool.{true, false}

@@ -42,7 +42,7 @@ Writes q out o = WritePromise (q .mode) (q .batch) (q .codec) (q .kind) (q .tabl
 -- what the rows ask for: a marker, or records whose spans lie in the source
 pub record Asks (q : Request) (c : Content RecordSpans) : Type 0 where
   pub place : RowPlace
-  pub is : contentAsked (viewWanted (q .kind)) (q .tables) (q .source) ≡ ok c place
+  pub is : contentAsked (q .mode) (viewWanted (q .kind)) (q .tables) (q .source) ≡ ok c place
 
 -- and the batch that these show
 abbrev pub batchAsked : Request → Content RecordSpans → Batch Record
@@ -60,12 +60,18 @@ module _ (q : Request) where
     pub codec-none : q .codec ≡ 0
     pub content : Content RecordSpans
     pub asked : Asks q content
-    pub length-is : batchLengthOf (q .mode) (batchAsked q content) ≡ n
+    pub length-is : batchLengthOf (batchAsked q content) ≡ n
 
--- Document 01, Writer's numbers: each is given exactly where it says.
+  -- codec 0, and a marker in the form that is withdrawn
+  abbrev pub AsksBareMarker : Type 0
+  AsksBareMarker = (q .codec ≡ 0) × (q .mode ≡ ControlMode.Bare) × ((m : Marker) × (viewWanted (q .kind) ≡ marker m))
+
+-- Document 01, Writer's numbers, and C-24's: each is given exactly where it says.
 pub record WriteNumbersOf (q : Request) (out : List ℕ) (a : Answer) : Type 0 where
   -- codec not 0
   pub twenty : Exactly (a .number ≡ 20) (q .codec ≡ 0 → ⊥)
+  -- a marker is asked for in bare mode
+  pub forty-one : Exactly (a .number ≡ 41) (AsksBareMarker q)
   -- more records than rows, or a row's numbers
   pub twenty-one : Exactly (a .number ≡ 21) (RowsRefusedBy q 21)
   -- header key not UTF-8
@@ -78,7 +84,7 @@ pub record WriteNumbersOf (q : Request) (out : List ℕ) (a : Answer) : Type 0 w
   pub accepted : Exactly (a .number ≡ 0) ((n : ℕ) × AsksLength q n × (n ≤ mostLength) × (uncounted + n ≤ length out))
   pub length-is : (n : ℕ) → AsksLength q n → a .number ≡ 0 → a .bytes ≡ uncounted + n
   -- no other number is given
-  pub no-other : (a .number ≡ 0) ⊎ ((20 ≤ a .number) × (a .number ≤ 24))
+  pub no-other : (a .number ≡ 0) ⊎ (((20 ≤ a .number) × (a .number ≤ 24)) ⊎ (a .number ≡ 41))
 
 abbrev pub WriteNumbers : Type 0
 WriteNumbers = (q : Request) (out : List ℕ) (o : WriteOutcome) → Writes q out o → WriteNumbersOf q out (viewWritten (o .result))

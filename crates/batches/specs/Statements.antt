@@ -19,8 +19,8 @@ use Rattle.records.specs.Statements.{sizes, total, movedRecord}
 use Rattle.layout.specs.declared.ControlMode.{ControlMode}
 use Rattle.layout.specs.Table.{table}
 use Rattle.layout.specs.Batch.{Fields, Marker, Content, control, records, Batch}
-use Rattle.layout.specs.Format.{Grammar, grammarOf, ContentBytes, BatchBytesWith, BatchBytes}
-use Rattle.opening.specs.Judgement.{more, refused, accepted, Accepted, Judgement, unsignedIn, numberIn, attributesIn, Control, judgeWith, wayOf, judgeAt, judge}
+use Rattle.layout.specs.Format.{Grammar, bareGrammar, grammarOf, ContentBytes, BatchBytesWith, BatchBytes}
+use Rattle.opening.specs.Judgement.{more, refused, accepted, Accepted, Judgement, unsignedIn, numberIn, attributesIn, Control, judgeWith, bareMarkerAt, formerWayOf, wayOf, judgeAt, judge}
 use Rattle.opening.specs.Statements.{Placeless}
 use Rattle.markers.specs.Forms.{Reads}
 use Rattle.batches.specs.declared.BatchCheck.{BatchCheck}
@@ -62,7 +62,7 @@ Unambiguous =
     (mode : ControlMode) (strict strict′ : Bool) (bs rest : List ℕ) (a b : Batch Record) → BatchBytes mode strict bs a
     → BatchBytes mode strict′ (bs ++ rest) b → (rest ≡ []) × (a ≡ b)
 
--- After a refusal 2 to 13 no list that begins with these bytes begins with a batch.
+-- After a refusal that stands no list that begins with these bytes begins with a batch.
 abbrev pub Never : Type 0
 Never =
     (mode : ControlMode) (strict : Bool) (s after bs rest : List ℕ) (b : Batch Record) (t : Tables) (o : ReadOutcome) → ReadPromise mode s t o
@@ -70,11 +70,11 @@ Never =
 
 -- ---- numbers
 
--- a way of reading control batches that refuses by none but the numbers 2 to 13
+-- a way of reading control batches that refuses by none but numbers that stand
 abbrev pub Within : Control → Type 0
 Within way = (s : List ℕ) (p n : ℕ) → way s p ≡ no n → Standing n
 
--- The judgement refuses by none but the numbers 2 to 13.
+-- The judgement refuses by none but numbers that stand.
 abbrev pub Refusals : Type 0
 Refusals = (way : Control) → Within way → (s : List ℕ) (at first n : ℕ) → judgeWith way s at first ≡ refused n → Standing n
 
@@ -156,12 +156,47 @@ EarlyAgree =
     → (judgeAt mode s at first ≡ more n → judgeAt mode′ s at first ≡ more n)
     × (n < 8 → judgeAt mode s at first ≡ refused n → judgeAt mode′ s at first ≡ refused n)
 
--- No bytes are a control batch in both forms.
+-- No bytes are a control batch in both forms, the one that is withdrawn and the keyed one.
 abbrev pub FormsApart : Type 0
 FormsApart =
     (strict strict′ : Bool) (bs : List ℕ) (x x′ : Fields) (m m′ : Marker)
-    → BatchBytes ControlMode.Bare strict bs (record { fields = x; content = control m })
+    → BatchBytesWith bareGrammar strict bs (record { fields = x; content = control m })
     → BatchBytes ControlMode.Keyed strict′ bs (record { fields = x′; content = control m′ }) → ⊥
+
+-- ---- what is withdrawn
+
+-- the judgement by the old rules, those of C-16
+abbrev pub formerAt : ControlMode → List ℕ → ℕ → ℕ → Judgement
+formerAt mode s at first = judgeWith (formerWayOf mode) s at first
+
+-- by the old rules of bare mode, which are the Rust's, a control batch is accepted there
+pub record FormerMarker (s : List ℕ) (at first : ℕ) : Type 0 where
+  pub batch : Accepted
+  pub marker : Marker
+  pub judged : judgeWith bareMarkerAt s at first ≡ accepted batch
+  pub content : batch .content ≡ control marker
+
+-- the same by the format: a batch in the form that is withdrawn stands there
+pub record BareBatch (s : List ℕ) : Type 0 where
+  pub fields : Fields
+  pub marker : Marker
+  pub end : ℕ
+  pub stands : Encoding (BatchBytesWith bareGrammar false) s 0 end (record { fields = fields; content = control marker })
+
+-- C-24: 41 is given, in either mode, exactly where a bare marker would have been accepted.
+abbrev pub Withdrawn : Type 0
+Withdrawn = (mode : ControlMode) (s : List ℕ) → Bytes s → Exactly (judge mode s ≡ refused 41) (BareBatch s)
+
+-- The same at every place, by the old rules themselves.
+abbrev pub WithdrawnAt : Type 0
+WithdrawnAt =
+    (mode : ControlMode) (s : List ℕ) (at first : ℕ) → Exactly (judgeAt mode s at first ≡ refused 41) (FormerMarker s at first)
+
+-- Everything else is answered as before.
+abbrev pub ElseAsBefore : Type 0
+ElseAsBefore =
+    (mode : ControlMode) (s : List ℕ) (at first : ℕ) → (judgeAt mode s at first ≡ refused 41 → ⊥)
+    → judgeAt mode s at first ≡ formerAt mode s at first
 
 -- ---- tables, and the check
 
@@ -178,18 +213,12 @@ CheckAgrees =
 
 -- ---- sizes
 
--- with the bare marker batchLength is 53; a keyed marker's record has batchLength - 49 bytes
-abbrev pub MarkedSize : ControlMode → List ℕ → ℕ → Type 0
-MarkedSize ControlMode.Bare bs n = n ≡ 53
-MarkedSize ControlMode.Keyed bs n = n ≡ 49 + length bs
-
--- the sizes of the records add up to batchLength - 49
+-- the sizes of the records add up to batchLength - 49, and so does that of a marker's one
 abbrev pub SizesOf : (mode : ControlMode) (strict : Bool) (bs : List ℕ) (c : Content Record) → ContentBytes (grammarOf mode) strict bs c → ℕ → Type 0
-SizesOf mode strict bs (control m) g n = MarkedSize mode bs n
+SizesOf mode strict bs (control m) g n = n ≡ 49 + length bs
 SizesOf mode strict bs (records rs) g n = n ≡ 49 + total (sizes g)
 
--- In an accepted batch of records the sizes of the records as they stand add up to batchLength - 49; with the bare
--- marker batchLength is 53, and with a keyed one 49 and the size of its record.
+-- In an accepted batch the sizes of the records as they stand, the one of a marker too, add up to batchLength - 49.
 abbrev pub Sizes : Type 0
 Sizes =
     (mode : ControlMode) (s : List ℕ) (at first : ℕ) (b : Accepted) → Bytes s → judgeAt mode s at first ≡ accepted b

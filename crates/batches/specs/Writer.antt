@@ -1,7 +1,8 @@
--- What the writer gives: document 01, Fixed fields, and Writer's numbers. The bytes of a batch are those of the strict
--- grammar, with batchLength and checksum worked out.
+-- What the writer gives: document 01, Fixed fields, and Writer's numbers, as C-24 has them. The bytes of a batch are
+-- those of the strict grammar, with batchLength and checksum worked out.
 use Prim.Native.Nat.{ℕ, _+_, _*_}
 use mathlib.Core.Bool.{true}
+use mathlib.Core.Option.{Option, none, some}
 use mathlib.Core.List.{List, [], _++_}
 use lib.Dec.{eqb, leb}
 use lib.IntN.{pos}
@@ -22,15 +23,15 @@ use Rattle.layout.specs.Table.{FixedFields, fixedPart, unchecked, uncountedFiel
 use Rattle.layout.specs.Batch.{Fields, Marker, Content, control, records, Batch}
 use Rattle.layout.specs.Format.{attributesOf, howMany}
 use Rattle.markers.specs.Markers.{viewMarker}
-use Rattle.markers.specs.Forms.{writesOf, sizeOf}
+use Rattle.markers.specs.Forms.{writtenControl, controlSize, writesOf}
 use Rattle.batches.specs.declared.ControlBatchOrRecords.{ControlBatchOrRecords}
 use Rattle.batches.specs.Placed.{shownContent}
 
 -- ---- the bytes of a batch
 
-unfoldable pub writtenContent : ControlMode → Content Record → List ℕ
-writtenContent mode (control m) = writesOf mode m
-writtenContent mode (records rs) = writtenRecords rs
+unfoldable pub writtenContent : Content Record → List ℕ
+writtenContent (control m) = writtenControl m
+writtenContent (records rs) = writtenRecords rs
 
 -- the fixed fields, around a batchLength and a checksum
 abbrev pub writtenFixed : Batch Record → ℕ → ℕ → FixedFields (List ℕ)
@@ -38,21 +39,21 @@ writtenFixed b batchLength crc =
     fixedFields (b .fields) (pos batchLength) crc (pos (attributesOf true 0 b)) (pos (howMany (b .content)))
 
 -- what the checksum is over, which holds neither of the two
-unfoldable pub checkedBytes : ControlMode → Batch Record → List ℕ
-checkedBytes mode b = concat (checkedFields (writtenFixed b 0 0)) ++ writtenContent mode (b .content)
+unfoldable pub checkedBytes : Batch Record → List ℕ
+checkedBytes b = concat (checkedFields (writtenFixed b 0 0)) ++ writtenContent (b .content)
 
 -- document 01, Fixed fields: all bytes after it
-unfoldable pub batchLengthOf : ControlMode → Batch Record → ℕ
-batchLengthOf mode b = unchecked + length (checkedBytes mode b)
+unfoldable pub batchLengthOf : Batch Record → ℕ
+batchLengthOf b = unchecked + length (checkedBytes b)
 
-unfoldable pub writtenBatch : ControlMode → Batch Record → List ℕ
-writtenBatch mode b =
-    let fixed : FixedFields (List ℕ) = writtenFixed b (batchLengthOf mode b) (crc32c (checkedBytes mode b)) in
-    concat (uncountedFields fixed) ++ (concat (uncheckedFields fixed) ++ checkedBytes mode b)
+unfoldable pub writtenBatch : Batch Record → List ℕ
+writtenBatch b =
+    let fixed : FixedFields (List ℕ) = writtenFixed b (batchLengthOf b) (crc32c (checkedBytes b)) in
+    concat (uncountedFields fixed) ++ (concat (uncheckedFields fixed) ++ checkedBytes b)
 
 -- a whole control batch
-abbrev pub markedSize : ControlMode → ℕ
-markedSize mode = fixedPart + sizeOf mode
+abbrev pub markedSize : ℕ
+markedSize = fixedPart + controlSize
 
 -- ---- what is asked for
 
@@ -65,24 +66,31 @@ abbrev pub viewWanted : ControlBatchOrRecords → Wanted
 viewWanted (ControlBatchOrRecords.ControlBatch m) = marker (viewMarker m)
 viewWanted (ControlBatchOrRecords.Records n) = rows n
 
--- a marker ignores both tables
-abbrev pub contentAsked : Wanted → Tables → List ℕ → Step RowPlace (Content RecordSpans)
-contentAsked (marker m) t s = ok (control m) (rowPlace 0 0)
-contentAsked (rows n) t s = mapStep records (recordsAsked t s 0 n)
+-- C-24, 41, in writing: a marker where none is written. A marker ignores both tables.
+abbrev pub markerAsked : Option (List ℕ) → Marker → Step RowPlace (Content RecordSpans)
+markerAsked none m = no 41
+markerAsked (some bs) m = ok (control m) (rowPlace 0 0)
+
+abbrev pub rowsAsked : ℕ → Tables → List ℕ → Step RowPlace (Content RecordSpans)
+rowsAsked n t s = mapStep records (recordsAsked t s 0 n)
+
+abbrev pub contentAsked : ControlMode → Wanted → Tables → List ℕ → Step RowPlace (Content RecordSpans)
+contentAsked mode (marker m) t s = markerAsked (writesOf mode m) m
+contentAsked mode (rows n) t s = rowsAsked n t s
 
 -- document 01, Writer's numbers, 23
 abbrev pub mostLength : ℕ
 mostLength = 2147483647
 
-abbrev pub batchGivenBy : ControlMode → Fields → List ℕ → Step RowPlace (Content RecordSpans) → Given
-batchGivenBy mode x s (ok c p) =
+abbrev pub batchGivenBy : Fields → List ℕ → Step RowPlace (Content RecordSpans) → Given
+batchGivenBy x s (ok c p) =
     let b : Batch Record = record { fields = x; content = shownContent s c } in
-    pick (leb (batchLengthOf mode b) mostLength) (given (writtenBatch mode b)) (refused 23)
-batchGivenBy mode x s (no n) = refused n
+    pick (leb (batchLengthOf b) mostLength) (given (writtenBatch b)) (refused 23)
+batchGivenBy x s (no n) = refused n
 
--- document 01, Writer's numbers, in their order; 24 is the output's
+-- document 01, Writer's numbers, as C-24 has them, in their order; 24 is the output's
 unfoldable pub batchGiven : ControlMode → Fields → ℕ → Wanted → Tables → List ℕ → Given
-batchGiven mode x codec wanted t s = pick (eqb codec 0) (batchGivenBy mode x s (contentAsked wanted t s)) (refused 20)
+batchGiven mode x codec wanted t s = pick (eqb codec 0) (batchGivenBy x s (contentAsked mode wanted t s)) (refused 20)
 
 -- ---- a batch asked for as it was read
 

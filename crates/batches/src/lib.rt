@@ -41,8 +41,11 @@ ghost use Rattle.opening.specs.Opened.{judgedAs};
 ghost use Rattle.markers.specs.Markers.{viewMarker};
 ghost use Rattle.batches.specs.Answers.{viewFields, viewCheck, viewRead, answerWithRoom};
 ghost use Rattle.batches.specs.Reading.{tight, checkOfRecordsRead, ofRecordsRead, Laid};
-ghost use Rattle.batches.specs.Writer.{markedSize, writtenBatch, mostLength, rows, contentAsked, batchGivenBy};
+ghost use Rattle.batches.specs.Writer.{writtenBatch, mostLength, rowsAsked, batchGivenBy};
 ghost use Rattle.batches.specs.Promises.{TotalSizePromise, CheckPromise, ReadBy, ReadPromise, RecordTimePromise, MeasurePromise, WritePromise, CanonicalPromise};
+
+// The bytes of a whole control batch, whose marker is written in 11.
+const MARKED: usize = BatchFields::FIXED + 11;
 
 // The fields of a batch that are handed out and in; all else is worked out.
 pub struct RecordBatch {
@@ -145,7 +148,10 @@ impl RecordBatch {
             return Written::Refused(WriteFault::Codec);
         }
         match kind {
-            ControlBatchOrRecords::ControlBatch(_) => Written::Bytes(marked(mode)),
+            ControlBatchOrRecords::ControlBatch(_) => match mode {
+                ControlMode::Bare => Written::Refused(WriteFault::BareMarker),
+                ControlMode::Keyed => Written::Bytes(MARKED),
+            },
             ControlBatchOrRecords::Records(count) => match measure_records(
                 records,
                 headers,
@@ -177,14 +183,11 @@ impl RecordBatch {
             return Written::Refused(WriteFault::Codec);
         }
         match kind {
-            ControlBatchOrRecords::ControlBatch(marker) => write_marker(
-                mode,
-                fields,
-                marker,
-                output,
-            ),
+            ControlBatchOrRecords::ControlBatch(marker) => match mode {
+                ControlMode::Bare => Written::Refused(WriteFault::BareMarker),
+                ControlMode::Keyed => write_marker(fields, marker, output),
+            },
             ControlBatchOrRecords::Records(count) => write_rows(
-                mode,
                 fields,
                 count,
                 records,
@@ -368,37 +371,20 @@ fn of_records(read: RecordsRead, batch: RecordBatch, total: usize) -> BatchRead
     }
 }
 
-// The bytes of a whole control batch.
-fn marked(mode: ControlMode) -> usize
-    ensures { λ r. ⌜ r ≡ markedSize mode ⌝ }
+fn write_marker(fields: BatchFields, marker: ControlBatchRecord, output: &mut [u8]) -> Written
+    ensures { λ r. ⌜ WriteBy (given (writtenBatch (record { fields = viewBatchFields fields; content = control (viewMarker marker) }))) 0 (now (output .entry)) (record { result = r; output = now (output .exit) }) ⌝ }
 {
-    match mode {
-        ControlMode::Bare => 65,
-        ControlMode::Keyed => 72,
-    }
-}
-
-fn write_marker(
-    mode: ControlMode,
-    fields: BatchFields,
-    marker: ControlBatchRecord,
-    output: &mut [u8],
-) -> Written
-    ensures { λ r. ⌜ WriteBy (given (writtenBatch mode (record { fields = viewBatchFields fields; content = control (viewMarker marker) }))) 0 (now (output .entry)) (record { result = r; output = now (output .exit) }) ⌝ }
-{
-    let size = marked(mode);
-    if output.len() < size {
+    if output.len() < MARKED {
         return Written::Refused(WriteFault::ShortOutput);
     }
-    marker.put(mode, output, BatchFields::FIXED);
-    finish(fields, true, Int32(1), size, output);
-    Written::Bytes(size)
+    marker.put(output, BatchFields::FIXED);
+    finish(fields, true, Int32(1), MARKED, output);
+    Written::Bytes(MARKED)
 }
 
-// The records come first: the fixed fields in front of them have their length and checksum. The mode is the
-// contract's alone: records are written alike in both.
+// The records come first: the fixed fields in front of them have their length and checksum. They are written alike in
+// both modes.
 fn write_rows(
-    mode: ControlMode,
     fields: BatchFields,
     count: usize,
     records: &[i64],
@@ -406,7 +392,7 @@ fn write_rows(
     source: &[u8],
     output: &mut [u8],
 ) -> Written
-    ensures { λ r. ⌜ WriteBy (batchGivenBy mode (viewBatchFields fields) (now (source .entry)) (contentAsked (rows count) (tables (now (records .entry)) (now (headers .entry))) (now (source .entry)))) 0 (now (output .entry)) (record { result = r; output = now (output .exit) }) ⌝ }
+    ensures { λ r. ⌜ WriteBy (batchGivenBy (viewBatchFields fields) (now (source .entry)) (rowsAsked count (tables (now (records .entry)) (now (headers .entry))) (now (source .entry)))) 0 (now (output .entry)) (record { result = r; output = now (output .exit) }) ⌝ }
 {
     match write_records(
         records,

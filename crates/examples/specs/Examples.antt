@@ -92,11 +92,12 @@ pub record Example : Type 0 where
   pub headerRows : List ℤ
   -- document 01, Record time: of each record
   pub times : List (Option ℤ)
-  -- what the writer gives for the batch: these very bytes, where they are canonical
+  -- what the writer gives for the batch: these very bytes, where they are canonical; where a marker stands alone, what
+  -- it gave before C-24
   pub written : List ℕ
   -- bindings/c/oddrafisk.h: the sixteen entries
   pub entries : List ℤ
-  -- document 01, The listing: its line
+  -- document 01, The listing: its line; where a marker stands alone there is none
   pub line : List ℕ
 
 -- bytes that are no batch, how many records they name where one of these is wrong, document 01's number, and where that
@@ -623,7 +624,7 @@ committedExample =
           ∷ pos 0 ∷ pos 1 ∷ pos 2 ∷ pos 0
           ∷ pos 0 ∷ pos 65 ∷ pos 0 ∷ pos 0
           ∷ [];
-      line = text "72623859790382856 65 commit 0 0\n";
+      line = [];
     }
 
 -- An abort marker, negative fields, log append time.
@@ -663,7 +664,7 @@ abortedExample =
           ∷ pos 1 ∷ pos 0 ∷ pos 1 ∷ pos 0
           ∷ pos 0 ∷ pos 65 ∷ pos 0 ∷ pos 0
           ∷ [];
-      line = text "-1 65 abort 0 0\n";
+      line = [];
     }
 
 abbrev pub recordExamples : List Example
@@ -1207,13 +1208,19 @@ abbrev pub listings : List Listed
 listings =
     -- three bytes stand after the last batch
     record {
-      file = unlike ++ (committed ++ (bare ++ (aborted ++ (hex ("000000" ∷ [])))));
+      file = unlike ++ (hex ("0102030405060708 0000003C 11121314 02 8AF47DA1"
+          ∷ "0030 21222324 3132333435363738 4142434445464748 5152535455565758 6162 71727374 00000001"
+          ∷ "1400000008000000010100"
+          ∷ []) ++ (bare ++ (hex ("FFFFFFFFFFFFFFFF 0000003C FFFFFFFE 02 3BA3F904"
+          ∷ "0028 FFFFFFFD FFFFFFFFFFFFFFFC FFFFFFFFFFFFFFFB FFFFFFFFFFFFFFFA FFF9 FFFFFFF8 00000001"
+          ∷ "1400000008000000000100"
+          ∷ []) ++ (hex ("000000" ∷ [])))));
       listing = lines ("base bytes kind records headers\n"
           ∷ "72623859790382856 156 records 2 4\n"
-          ∷ "72623859790382856 65 commit 0 0\n"
+          ∷ "72623859790382856 72 commit 0 0\n"
           ∷ "-1 61 records 0 0\n"
-          ∷ "-1 65 abort 0 0\n"
-          ∷ "stop 1 at 347\n"
+          ∷ "-1 72 abort 0 0\n"
+          ∷ "stop 1 at 361\n"
           ∷ []);
     }
     -- none do
@@ -1232,6 +1239,17 @@ listings =
       listing = lines ("base bytes kind records headers\n"
           ∷ "4 121 records 2 4\n"
           ∷ "stop 3 at 121\n"
+          ∷ []);
+    }
+    -- a marker that stands alone does
+    ∷ record {
+      file = kcat ++ (hex ("0102030405060708 00000035 11121314 02 23EA50BF"
+          ∷ "0030 21222324 3132333435363738 4142434445464748 5152535455565758 6162 71727374 00000001"
+          ∷ "00000001"
+          ∷ []));
+      listing = lines ("base bytes kind records headers\n"
+          ∷ "4 121 records 2 4\n"
+          ∷ "stop 41 at 121\n"
           ∷ []);
     }
     ∷ []

@@ -94,9 +94,13 @@ pub record KeyedBytes (strict : Bool) (bs : List ℕ) (m : Marker) : Type 0 wher
 abbrev pub Grammar : Type 1
 Grammar = Bool → List ℕ → Marker → Type 0
 
--- Exception in bare mode, as in the Rust: version and type stand alone, and not in the key of a record.
+-- The form that C-24 withdraws, which is the Rust's: version and type stand alone, and not in the key of a record.
+abbrev pub bareGrammar : Grammar
+bareGrammar strict bs m = MarkerBytes bs m
+
+-- C-24: in bare mode nothing is a control batch.
 unfoldable pub grammarOf : ControlMode → Grammar
-grammarOf ControlMode.Bare strict bs m = MarkerBytes bs m
+grammarOf ControlMode.Bare strict bs m = ⊥
 grammarOf ControlMode.Keyed strict bs m = KeyedBytes strict bs m
 
 -- what follows the fixed fields, for any grammar of a control batch

@@ -52,9 +52,9 @@ most = 65536
 abbrev pub programRooms : Rooms
 programRooms = record { records = 1024; headers = 2048 }
 
--- document 01's listing: a control batch's marker stands alone
+-- document 01's listing, as C-24 has it: a marker is the key of a record, and stands alone no more
 abbrev pub listedMode : ControlMode
-listedMode = ControlMode.Bare
+listedMode = ControlMode.Keyed
 
 abbrev pub firstTurn : List ℕ → Turn
 firstTurn s = pick (ltb most (length s)) (last tooLong) (line heading 0)

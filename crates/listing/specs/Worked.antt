@@ -4,7 +4,7 @@ use Prim.Native.Nat.{ℕ, _+_}
 use mathlib.Core.Path.{_≡_}
 use mathlib.Core.List.{List, _++_, map}
 use lib.ListN.{length}
-use Rattle.examples.specs.Examples.{Example, examples, Listed, listings, longest, headingText, tooLongText}
+use Rattle.examples.specs.Examples.{Example, recordExamples, Listed, listings, longest, headingText, tooLongText}
 use Rattle.records.specs.Worked.{exampleRecords, exampleHeaders}
 use Rattle.layout.specs.Worked.{exampleContent}
 use Rattle.batches.specs.Answers.{kindOf, Rooms}
@@ -12,15 +12,15 @@ use Rattle.listing.specs.Listing.{batchLine, programRooms, listing}
 
 -- ---- lines
 
-abbrev lineOf : Example → List ℕ
+abbrev pub lineOf : Example → List ℕ
 lineOf e =
     batchLine (e .baseOffset) (length (e .bytes)) (kindOf (exampleContent (e .holds))) (length (exampleRecords (e .holds))) (exampleHeaders e)
 
--- The line of each worked batch is the one that is given with it, and the listing of each worked file is the whole text
--- that is given with it.
+-- The line of each worked batch of records is the one that is given with it, and the listing of each worked file is the
+-- whole text that is given with it.
 abbrev pub WorkedLines : Type 0
 WorkedLines =
-    (map lineOf examples ≡ map (λ (e : Example). e .line) examples)
+    (map lineOf recordExamples ≡ map (λ (e : Example). e .line) recordExamples)
     × (map (λ (l : Listed). listing programRooms (l .file)) listings ≡ map (λ (l : Listed). l .listing) listings)
 
 -- ---- the longest file

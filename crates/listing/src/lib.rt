@@ -60,7 +60,7 @@ pub fn list_at(bytes: &[u8], place: usize, records: &mut [i64], headers: &mut [i
     if bytes.len() <= place {
         return last(end_line(bytes.len()));
     }
-    let read = RecordBatch::read(ControlMode::Bare, &bytes[place..], records, headers);
+    let read = RecordBatch::read(ControlMode::Keyed, &bytes[place..], records, headers);
     entry_of(read, place)
 }
 

@@ -1,5 +1,5 @@
--- The bare form is lawful: version and type, each an integer of two bytes, and nothing after them. Assumes nothing.
-use Prim.Native.Nat.{ℕ, _≤_}
+-- The form that is withdrawn: version and type, each an integer of two bytes, and nothing after them. Assumes nothing.
+use Prim.Native.Nat.{ℕ, _+_, _≤_}
 use mathlib.Core.Path.{_≡_, refl, sym, ap, _∙_, subst, subst₂}
 use mathlib.Core.List.{List, _++_}
 use native.Mathlib.Omega.{arith}
@@ -16,20 +16,19 @@ use Rattle.primitives.specs.Stands.{Stands, Encoding}
 use Rattle.primitives.specs.Reading.{integerAt}
 use Rattle.primitives.proofs.Steps.{and-then-ok, and-then-and-then}
 use Rattle.primitives.proofs.Places.{joined, first, second}
+use Rattle.primitives.proofs.Moves.{integer-moves}
 use Rattle.primitives.proofs.Integers.{integer-complete}
 use Rattle.primitives.proofs.Picks.{picked, passed-over, and-then-pick}
 use Rattle.primitives.proofs.Shifted.{ltb-add, moved, integer-shifted}
-use Rattle.records.proofs.Refusals.{Refuses, refusal-within, and-then-refuses, pick-refuses, integer-refuses}
-use Rattle.layout.specs.declared.ControlMode.{ControlMode}
+use Rattle.records.proofs.Refusals.{Refuses, and-then-refuses, pick-refuses, integer-refuses}
 use Rattle.layout.specs.Batch.{Marker, abort, commit}
-use Rattle.layout.specs.Format.{markerType, MarkerBytes, grammarOf}
-use Rattle.opening.specs.Judgement.{is, markerOf, endedAt, bareMarkerAt, wayOf}
-use Rattle.opening.specs.Faults.{wrongOf}
+use Rattle.layout.specs.Format.{markerType, MarkerBytes}
+use Rattle.opening.specs.Judgement.{is, markerOf, endedAt, bareMarkerAt}
 use Rattle.opening.specs.Statements.{Placeless}
 use Rattle.opening.proofs.Tests.{is-true}
-use Rattle.opening.proofs.MarkerFaults.{marker-again, type-read, sixteen, bare-marker-faults}
+use Rattle.opening.proofs.MarkerFaults.{marker-again, type-read, sixteen}
 use Rattle.markers.specs.Markers.{writtenMarker}
-use Rattle.markers.specs.Forms.{writesOf, Lawful}
+use Rattle.markers.specs.Forms.{BareReads}
 use Rattle.markers.proofs.Encodes.{marker-encodes, marker-written}
 
 -- a marker has four bytes
@@ -71,6 +70,18 @@ bare-sound s p q m b e =
     let y = marker-joined version kind in
     (y, omega (arith, h, y .stands .within))
 
+-- it ends with the list, whatever its elements are
+pub bare-ends : (s : List ℕ) (p q : ℕ) (m : Marker) → bareMarkerAt s p ≡ ok m q → length s ≤ p + 4
+unfolding bareMarkerAt
+bare-ends s p q m e =
+    let (v, k, i, j) = and-then-ok (integerAt 2 s p) _ e in
+    let (_, l) = picked (is 0 v) _ 12 j in
+    let (_, n, f, g) = and-then-ok (andThen (integerAt 2 s k) markerOf) (endedAt s) l in
+    let (z, r, c, d) = and-then-ok (integerAt 2 s k) markerOf f in
+    let (_, w) = type-read z (is 0 z) (is 1 z) refl refl d in
+    let (h, _, o) = ended-read s g in
+    omega (arith, integer-moves 2 s p i .0, integer-moves 2 s k c .0, h, o, w)
+
 -- ---- a marker is read
 
 pub bare-complete : {s : List ℕ} {p : ℕ} {bs : List ℕ} {m : Marker} → Stands s p (length s) bs → MarkerBytes bs m
@@ -107,25 +118,10 @@ bare-placeless front s p = simp (integer-shifted, and-then-and-then, and-then-pi
 
 -- ---- what is written
 
-marker-size : (m : Marker) → length (writtenMarker m) ≡ 4
-unfolding writtenMarker
-marker-size m = simp (length-append, big-endian-length)
-
 pub marker-octets : (m : Marker) → Bytes (writtenMarker m)
 unfolding writtenMarker
 marker-octets m =
     joined-bytes (bigEndian 2 0) (bigEndian 2 (markerType m)) (big-endian-bytes 2 0) (big-endian-bytes 2 (markerType m))
 
-pub bare-lawful : Lawful ControlMode.Bare
-unfolding grammarOf wayOf wrongOf writesOf
-bare-lawful =
-    record {
-      reads = record { sound = bare-sound; complete = λ strict s p bs m x g. bare-complete x g };
-      late = λ s p n e. refusal-within (bare-refuses s p) e;
-      faults = bare-marker-faults;
-      placeless = bare-placeless;
-      strict = λ bs m. (marker-written bs m, λ e. subst (λ (bs : List ℕ). MarkerBytes bs m) (sym e) (marker-encodes m));
-      shortest = λ strict bs m g. omega (arith, ap length (marker-written bs m g));
-      size = marker-size;
-      bytes = marker-octets;
-    }
+pub bare-reads : BareReads
+bare-reads = record { sound = bare-sound; complete = λ strict s p bs m x g. bare-complete x g }

@@ -15,14 +15,15 @@ use Rattle.primitives.proofs.Steps.{ok-not-no}
 use Rattle.primitives.proofs.Places.{all-left}
 use Rattle.layout.specs.declared.ControlMode.{ControlMode}
 use Rattle.layout.specs.Batch.{Marker}
+use Rattle.layout.specs.Format.{grammarOf}
 use Rattle.opening.specs.declared.BatchFault.{BatchFault}
-use Rattle.opening.specs.Judgement.{wayOf}
+use Rattle.opening.specs.Judgement.{keyedMarkerAt}
 use Rattle.markers.specs.declared.ControlBatchRecord.{ControlBatchRecord}
 use Rattle.markers.specs.declared.ControlBatchRecordRead.{ControlBatchRecordRead}
 use Rattle.markers.specs.Markers.{viewMarker, viewMarkerRead}
-use Rattle.markers.specs.Forms.{writesOf}
+use Rattle.markers.specs.Forms.{writtenControl}
 use Rattle.markers.specs.Promises.{StandsAlone, StandsPromise}
-use Rattle.markers.proofs.Keyed.{keyed-lawful}
+use Rattle.markers.proofs.Keyed.{keyed-complete, keyed-encodes, keyed-written}
 
 module _ (bytes s : List ℕ) (at : ℕ) where
   -- the first i of them are the same
@@ -66,17 +67,20 @@ module _ (bytes s : List ℕ) (at : ℕ) where
 -- ---- a keyed marker
 
 module _ (s : List ℕ) (at : ℕ) where
-  written-alone : (m : Marker) → Stands s at (length s) (writesOf ControlMode.Keyed m) → StandsAlone ControlMode.Keyed s at
-  written-alone m x = (m, record { bytes = writesOf ControlMode.Keyed m; stands = x; encodes = keyed-lawful .strict _ m .1 refl })
+  written-alone : (m : Marker) → Stands s at (length s) (writtenControl m) → StandsAlone ControlMode.Keyed s at
+  unfolding grammarOf
+  written-alone m x = (m, record { bytes = writtenControl m; stands = x; encodes = keyed-encodes m })
 
-  alone-written : (x : StandsAlone ControlMode.Keyed s at) → Stands s at (length s) (writesOf ControlMode.Keyed (x .0))
-  alone-written (m, x) = subst (Stands s at (length s)) (keyed-lawful .strict (x .bytes) m .0 (x .encodes)) (x .stands)
+  alone-written : (x : StandsAlone ControlMode.Keyed s at) → Stands s at (length s) (writtenControl (x .0))
+  unfolding grammarOf
+  alone-written (m, x) = subst (Stands s at (length s)) (keyed-written (x .bytes) m (x .encodes)) (x .stands)
 
   -- what stands there as it is written is read
-  alone-read : (x : StandsAlone ControlMode.Keyed s at) → wayOf ControlMode.Keyed s at ≡ ok (x .0) (length s)
-  alone-read (m, x) = keyed-lawful .reads .complete true s at (x .bytes) m (x .stands) (x .encodes)
+  alone-read : (x : StandsAlone ControlMode.Keyed s at) → keyedMarkerAt s at ≡ ok (x .0) (length s)
+  unfolding grammarOf
+  alone-read (m, x) = keyed-complete true s at (x .bytes) m (x .stands) (x .encodes)
 
-  module _ (a : ControlBatchRecordRead) (e : viewMarkerRead a ≡ wayOf ControlMode.Keyed s at) where
+  module _ (a : ControlBatchRecordRead) (e : viewMarkerRead a ≡ keyedMarkerAt s at) where
     pub unread-stands-not : (f : BatchFault) → a ≡ ControlBatchRecordRead.Refused f → StandsPromise ControlMode.Keyed s at false
     unread-stands-not f g = (
       λ h. absurd (let v : _≡_ {A = ℕ} 0 1 = cc in omega arith),
@@ -84,18 +88,26 @@ module _ (s : List ℕ) (at : ℕ) where
     )
 
     pub read-stands : (m : ControlBatchRecord) (c : Cursor) → a ≡ ControlBatchRecordRead.Got m c → (bytes : List ℕ)
-        → bytes ≡ writesOf ControlMode.Keyed (viewMarker m) → (r : Bool) → Exactly (r ≡ true) (Stands s at (length s) bytes)
+        → bytes ≡ writtenControl (viewMarker m) → (r : Bool) → Exactly (r ≡ true) (Stands s at (length s) bytes)
         → StandsPromise ControlMode.Keyed s at r
     read-stands m c g bytes i r (told, tells) = (
       λ t. written-alone (viewMarker m) (subst (Stands s at (length s)) i (told t)),
       λ x.
           let both : ok (viewMarker m) (c .at) ≡ ok (x .0) (length s) = sym (ap viewMarkerRead g) ∙ e ∙ alone-read x in
           let same : viewMarker m ≡ x .0 = cc in
-          tells (subst (Stands s at (length s)) (ap (writesOf ControlMode.Keyed) (sym same) ∙ sym i) (alone-written x)),
+          tells (subst (Stands s at (length s)) (ap (writtenControl) (sym same) ∙ sym i) (alone-written x)),
     )
 
 -- ---- by the mode
 
-module _ (mode : ControlMode) (s : List ℕ) (at : ℕ) (r : Bool) where
-  pub stands-by : (known : ControlMode) → mode ≡ known → StandsPromise known s at r → StandsPromise mode s at r
-  stands-by known e h = subst (λ (k : ControlMode). StandsPromise k s at r) (sym e) h
+module _ (mode : ControlMode) (s : List ℕ) (at : ℕ) where
+  pub stands-keyed : (r : Bool) → mode ≡ ControlMode.Keyed → StandsPromise ControlMode.Keyed s at r → StandsPromise mode s at r
+  stands-keyed r e h = subst (λ (k : ControlMode). StandsPromise k s at r) (sym e) h
+
+  -- in bare mode none stands
+  none-stands : StandsPromise ControlMode.Bare s at false
+  unfolding grammarOf
+  none-stands = (λ e. absurd (let z : _≡_ {A = ℕ} 0 1 = cc in omega arith), λ (m, x). absurd (x .encodes))
+
+  pub stands-bare : mode ≡ ControlMode.Bare → StandsPromise mode s at false
+  stands-bare e = subst (λ (k : ControlMode). StandsPromise k s at false) (sym e) none-stands

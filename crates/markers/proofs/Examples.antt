@@ -7,7 +7,7 @@ use Rattle.primitives.specs.Reading.{big, unsignedAt, signedBy, integerAt, byte
 use Rattle.records.specs.Judgement.{countAt, bytesAt, keyAt, headerAt, deltasAt, headAt, fieldsAt, recordAt}
 use Rattle.layout.specs.declared.ControlMode.{ControlMode}
 use Rattle.layout.specs.Batch.{abort, commit}
-use Rattle.opening.specs.Judgement.{bareMarkerAt, keyedMarkerAt, wayOf}
+use Rattle.opening.specs.Judgement.{bareMarkerAt, keyedMarkerAt, formerWayOf, wayOf}
 
 abbrev bodies : List (List ℕ)
 bodies =
@@ -22,10 +22,10 @@ bodies =
     ∷ (32 ∷ 0 ∷ 0 ∷ 0 ∷ 8 ∷ 0 ∷ 0 ∷ 0 ∷ 1 ∷ 12 ∷ 0 ∷ 0 ∷ 0 ∷ 0 ∷ 0 ∷ 0 ∷ 0 ∷ [])
     ∷ (12 ∷ 0 ∷ 0 ∷ 0 ∷ 1 ∷ 1 ∷ 0 ∷ 0 ∷ []) ∷ []
 
-pub bare-answers : map (λ s. wayOf ControlMode.Bare s 0) bodies ≡ (no 12) ∷ (no 12) ∷ (ok abort 4) ∷ (no 12) ∷ (no 12) ∷ (no 12) ∷ (no 12) ∷ (no 12) ∷ (no 12) ∷ (no 12) ∷ []
-unfolding wayOf bareMarkerAt keyedMarkerAt big unsignedAt signedBy integerAt byteAt codeAt unzigzag varintAt lengthAt spanAt countAt bytesAt keyAt headerAt deltasAt headAt fieldsAt recordAt times
+pub bare-answers : map (λ s. wayOf ControlMode.Bare s 0) bodies ≡ (no 12) ∷ (no 12) ∷ (no 41) ∷ (no 12) ∷ (no 12) ∷ (no 12) ∷ (no 12) ∷ (no 12) ∷ (no 12) ∷ (no 12) ∷ []
+unfolding wayOf formerWayOf bareMarkerAt keyedMarkerAt big unsignedAt signedBy integerAt byteAt codeAt unzigzag varintAt lengthAt spanAt countAt bytesAt keyAt headerAt deltasAt headAt fieldsAt recordAt times
 bare-answers = refl
 
-pub keyed-answers : map (λ s. wayOf ControlMode.Keyed s 0) bodies ≡ (ok abort 11) ∷ (ok commit 11) ∷ (no 8) ∷ (no 12) ∷ (no 12) ∷ (no 12) ∷ (no 12) ∷ (ok commit 12) ∷ (ok commit 17) ∷ (no 13) ∷ []
-unfolding wayOf bareMarkerAt keyedMarkerAt big unsignedAt signedBy integerAt byteAt codeAt unzigzag varintAt lengthAt spanAt countAt bytesAt keyAt headerAt deltasAt headAt fieldsAt recordAt times
+pub keyed-answers : map (λ s. wayOf ControlMode.Keyed s 0) bodies ≡ (ok abort 11) ∷ (ok commit 11) ∷ (no 41) ∷ (no 12) ∷ (no 12) ∷ (no 12) ∷ (no 12) ∷ (ok commit 12) ∷ (ok commit 17) ∷ (no 13) ∷ []
+unfolding wayOf formerWayOf bareMarkerAt keyedMarkerAt big unsignedAt signedBy integerAt byteAt codeAt unzigzag varintAt lengthAt spanAt countAt bytesAt keyAt headerAt deltasAt headAt fieldsAt recordAt times
 keyed-answers = refl

@@ -39,18 +39,11 @@ use Rattle.layout.specs.declared.ControlMode.{ControlMode}
 use Rattle.layout.specs.Batch.{Marker}
 use Rattle.opening.specs.declared.BatchFault.{BatchFault}
 use Rattle.opening.specs.Answers.{batchNumberOf}
-use Rattle.opening.specs.Judgement.{asOf, markerInKey, keyedMarkerAt, wayOf}
+use Rattle.opening.specs.Judgement.{bareMarkerAt, asOf, markerInKey, keyedMarkerAt}
 use Rattle.markers.specs.declared.ControlBatchRecord.{ControlBatchRecord}
 use Rattle.markers.specs.declared.ControlBatchRecordRead.{ControlBatchRecordRead}
 use Rattle.markers.specs.Markers.{viewMarker, viewMarkerRead, shownFrom, keyOf, KeyPlace}
 use Rattle.markers.proofs.KeyFront.{key-inside}
-
--- ---- by the mode
-
-module _ (mode : ControlMode) (s : List ℕ) (at : ℕ) (r : ControlBatchRecordRead) where
-  pub read-by : (known : ControlMode) → mode ≡ known → viewMarkerRead r ≡ wayOf known s at
-      → viewMarkerRead r ≡ wayOf mode s at
-  read-by known e f = f ∙ ap (λ (m : ControlMode). wayOf m s at) (sym e)
 
 -- ---- the first four bytes of a key
 
@@ -97,13 +90,12 @@ module _ (s : List ℕ) (x : Place) (g : SFits w64 (x .start)) (f : SFits w64 (x
         let within : natAbs (x .start) + n ≤ length s = subst (NullableInside s) is (k .within) in
         omega (arith, within, l, start-is)
 
-    module _ (r : ControlBatchRecordRead) (e : viewMarkerRead r ≡ wayOf ControlMode.Bare (take (start + 4) s) start) where
+    module _ (r : ControlBatchRecordRead) (e : viewMarkerRead r ≡ bareMarkerAt (take (start + 4) s) start) where
       looked : (y : ControlBatchRecordRead) → r ≡ y → andThen (viewMarkerRead y) (asOf end) ≡ markerInKey s (keyOf x) end
-      unfolding wayOf
       looked y h =
           let (n, l, is) = long in
           ap (λ (y : Step ℕ Marker). andThen y (asOf end))
-          (sym (ap viewMarkerRead h) ∙ e ∙ ap (λ (p : ℕ). wayOf ControlMode.Bare (take (p + 4) s) p) start-is)
+          (sym (ap viewMarkerRead h) ∙ e ∙ ap (λ (p : ℕ). bareMarkerAt (take (p + 4) s) p) start-is)
           ∙ rw (is, le-ltb n 4 l)
 
       pub key-marks : (m : ControlBatchRecord) (c : Cursor) → r ≡ ControlBatchRecordRead.Got m c
@@ -129,8 +121,8 @@ same-number : {A : Type 0} {m n : ℕ} → _≡_ {A = Step ℕ A} (no m) (no n) 
 same-number e = cc
 
 -- where none stands there, the refusal is the same
-refused-alike : (s : List ℕ) (at n : ℕ) (x : Step ℕ RecordSpans) → recordAt s at ≡ x → recordsAt s 1 at ≡ no n → wayOf ControlMode.Keyed s at ≡ no n
-unfolding recordsAt runAt times wayOf keyedMarkerAt
+refused-alike : (s : List ℕ) (at n : ℕ) (x : Step ℕ RecordSpans) → recordAt s at ≡ x → recordsAt s 1 at ≡ no n → keyedMarkerAt s at ≡ no n
+unfolding recordsAt runAt times keyedMarkerAt
 refused-alike s at n (no k) e f = rw e (ap no (same-number (rw e at f)))
 refused-alike s at n (ok r q) e f =
     let l = record-moves s at e .1 in
@@ -153,12 +145,12 @@ row-shows a b c d x y (some z) v e =
     (rw (start, len) refl, (z .start, start))
 
 record-marks : (s : List ℕ) (at : ℕ) (r : RecordSpans) → recordAt s at ≡ ok r (length s)
-    → markerInKey s (r .key) (length s) ≡ wayOf ControlMode.Keyed s at
-unfolding wayOf keyedMarkerAt
+    → markerInKey s (r .key) (length s) ≡ keyedMarkerAt s at
+unfolding keyedMarkerAt
 record-marks s at r e = rw (e, le-ltb (length s) (length s) (omega arith))
 
 module _ (s : List ℕ) (fits : (i : ℕ) → Fits w8 (getD s i 0)) (at : ℕ) (a : RecordsCheck) (e : viewCheck a ≡ mapStep countsOf (recordsAt s 1 at)) where
-  pub record-refused : (f : RecordFault) → a ≡ RecordsCheck.Refused f → no (recordNumberOf f) ≡ wayOf ControlMode.Keyed s at
+  pub record-refused : (f : RecordFault) → a ≡ RecordsCheck.Refused f → no (recordNumberOf f) ≡ keyedMarkerAt s at
   record-refused f g =
       sym (refused-alike s at (recordNumberOf f) _ refl (map-no countsOf (recordsAt s 1 at) (sym e ∙ ap viewCheck g)))
 
@@ -176,7 +168,7 @@ module _ (s : List ℕ) (fits : (i : ℕ) → Fits w8 (getD s i 0)) (at : ℕ) (
         let (r, was, w) = one-record s at i in
         record { shows = r; reads = was; ends = w; has = head-of s at was }
 
-    pub size-refused : (f : Fault) → b ≡ CountRead.Refused f → no (numberOf f) ≡ wayOf ControlMode.Keyed s at
+    pub size-refused : (f : Fault) → b ≡ CountRead.Refused f → no (numberOf f) ≡ keyedMarkerAt s at
     size-refused f h = ok-not-no (sym (judged .has .sized) ∙ sym e′ ∙ ap viewCount h)
 
     module _ (size : ℕ) (c : Cursor) (h : b ≡ CountRead.Got size c) (x : RecordRead) (i : viewRecord x ≡ mapStep headingOf (headAt s (c .at))) where
@@ -187,7 +179,7 @@ module _ (s : List ℕ) (fits : (i : ℕ) → Fits w8 (getD s i 0)) (at : ℕ) (
           let place : c .at ≡ j .place = let z : ok size (c .at) ≡ ok (j .size) (j .place) = sym (ap viewCount h) ∙ e′ ∙ j .sized in cc in
           i ∙ ap (λ (p : ℕ). mapStep headingOf (headAt s p)) place ∙ ap (mapStep headingOf) (j .reads)
 
-      pub head-refused : (f : Fault) → x ≡ RecordRead.Refused f → no (numberOf f) ≡ wayOf ControlMode.Keyed s at
+      pub head-refused : (f : Fault) → x ≡ RecordRead.Refused f → no (numberOf f) ≡ keyedMarkerAt s at
       head-refused f k = ok-not-no (sym same-head ∙ ap viewRecord k)
 
       module _ (y : Record) (next : Cursor) (k : x ≡ RecordRead.Got y next) where
@@ -216,7 +208,7 @@ module _ (s : List ℕ) (fits : (i : ℕ) → Fits w8 (getD s i 0)) (at : ℕ) (
             }
 
         pub key-read : (r : ControlBatchRecordRead) → viewMarkerRead r ≡ markerInKey s (keyOf (y .key)) end
-            → viewMarkerRead r ≡ wayOf ControlMode.Keyed s at
+            → viewMarkerRead r ≡ keyedMarkerAt s at
         key-read r l =
             l ∙ ap (λ (k : Option Span). markerInKey s k end) key-same ∙ ap (markerInKey s (judged .shows .key)) (judged .ends)
             ∙ record-marks s at (judged .shows) (judged .reads)

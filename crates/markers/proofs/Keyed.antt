@@ -1,4 +1,4 @@
--- The keyed form is lawful: the record is read as any record, and the first four bytes of its key as a bare marker.
+-- The keyed form: the record is read as any record, and the first four bytes of its key as a bare marker.
 -- Assumes nothing.
 use Prim.Native.Nat.{ℕ, _+_, _≤_}
 use mathlib.Core.Path.{_≡_, refl, sym, ap, _∙_, subst}
@@ -27,7 +27,7 @@ use Rattle.records.specs.Inside.{NullableInside}
 use Rattle.records.specs.Placed.{placedRecord, shownRecord}
 use Rattle.records.specs.Written.{writtenBytes, writtenFields, writtenHeaders, writtenRecord}
 use Rattle.records.specs.Statements.{Each, Writable}
-use Rattle.records.proofs.Refusals.{Refuses, refusal-within, and-then-refuses, pick-refuses, record-refuses}
+use Rattle.records.proofs.Refusals.{Refuses, and-then-refuses, pick-refuses, record-refuses}
 use Rattle.records.proofs.Shifted.{record-shifted}
 use Rattle.records.proofs.Sound.{record-sound}
 use Rattle.records.proofs.Complete.{record-complete}
@@ -36,17 +36,14 @@ use Rattle.records.proofs.Encodes.{record-encodes}
 use Rattle.records.proofs.Written.{record-written}
 use Rattle.records.proofs.Sizes.{keyed-record-least}
 use Rattle.records.proofs.AllBytes.{record-bytes}
-use Rattle.layout.specs.declared.ControlMode.{ControlMode}
 use Rattle.layout.specs.Batch.{Marker, abort, commit}
-use Rattle.layout.specs.Format.{markerType, MarkerBytes, markerRecord, KeyedBytes, grammarOf}
-use Rattle.opening.specs.Judgement.{bareMarkerAt, asOf, markerInKey, keyedMarkerAt, wayOf}
-use Rattle.opening.specs.Faults.{wrongOf}
+use Rattle.layout.specs.Format.{markerType, MarkerBytes, markerRecord, KeyedBytes}
+use Rattle.opening.specs.Judgement.{bareMarkerAt, asOf, markerInKey, keyedMarkerAt}
 use Rattle.opening.specs.Statements.{Placeless}
 use Rattle.markers.specs.Markers.{writtenMarker}
-use Rattle.markers.specs.Forms.{writesOf, Lawful}
+use Rattle.markers.specs.Forms.{writtenControl, controlSize}
 use Rattle.markers.proofs.Encodes.{marker-encodes, marker-written}
 use Rattle.markers.proofs.KeyFront.{key-inside, keyFront, key-length, front-length, begins-there, there-begins}
-use Rattle.markers.proofs.KeyedFaults.{keyed-marker-faults}
 use Rattle.markers.proofs.Bare.{bare-sound, bare-complete, bare-refuses, bare-placeless, bare-length, marker-octets}
 
 -- ---- the key, where it lies in the list
@@ -155,16 +152,13 @@ keyed-placeless front s p = simp (record-shifted, length-append, ltb-add, key-mo
 
 -- ---- what is written
 
-abbrev writes : Marker → List ℕ
-writes m = writtenRecord (markerRecord (writtenMarker m))
-
 fields-length : (m : Marker) → length (writtenFields (markerRecord (writtenMarker m))) ≡ 10
 unfolding writtenFields writtenBytes writtenHeaders writtenMarker bigEndian shortest fewest
 fields-length abort = refl
 fields-length commit = refl
 
-pub keyed-listed : (m : Marker) → writes m ≡ 20 ∷ 0 ∷ 0 ∷ 0 ∷ 8 ∷ 0 ∷ 0 ∷ 0 ∷ markerType m ∷ 1 ∷ 0 ∷ []
-unfolding writtenFields writtenBytes writtenHeaders writtenMarker bigEndian shortest fewest
+pub keyed-listed : (m : Marker) → writtenControl m ≡ 20 ∷ 0 ∷ 0 ∷ 0 ∷ 8 ∷ 0 ∷ 0 ∷ 0 ∷ markerType m ∷ 1 ∷ 0 ∷ []
+unfolding writtenControl writtenFields writtenBytes writtenHeaders writtenMarker bigEndian shortest fewest
 keyed-listed abort = refl
 keyed-listed commit = refl
 
@@ -173,10 +167,11 @@ unfolding Each
 marker-writable m =
     record { timestamp = omega arith; offset = omega arith; keys = tt; size = omega (arith, fields-length m) }
 
-record-holds : (m : Marker) → RecordBytes true (writes m) (markerRecord (writtenMarker m))
+record-holds : (m : Marker) → RecordBytes true (writtenControl m) (markerRecord (writtenMarker m))
+unfolding writtenControl
 record-holds m = record-encodes true (markerRecord (writtenMarker m)) (marker-writable m)
 
-keyed-encodes : (m : Marker) → KeyedBytes true (writes m) m
+pub keyed-encodes : (m : Marker) → KeyedBytes true (writtenControl m) m
 keyed-encodes m =
     record {
       shows = markerRecord (writtenMarker m);
@@ -188,34 +183,24 @@ keyed-encodes m =
       plain = refl;
     }
 
-keyed-octets : (m : Marker) → Bytes (writes m)
+pub keyed-octets : (m : Marker) → Bytes (writtenControl m)
 unfolding Each
 keyed-octets m =
-    record-bytes true (writes m) (markerRecord (writtenMarker m)) (record-holds m)
+    record-bytes true (writtenControl m) (markerRecord (writtenMarker m)) (record-holds m)
     (record { key = marker-octets m; value = tt; headers = tt })
 
-keyed-written : (bs : List ℕ) (m : Marker) → KeyedBytes true bs m → bs ≡ writes m
+pub keyed-written : (bs : List ℕ) (m : Marker) → KeyedBytes true bs m → bs ≡ writtenControl m
+unfolding writtenControl
 keyed-written bs m g =
     record-written bs (g .shows) (g .holds) ∙ ap writtenRecord (g .plain)
     ∙ ap (λ (marker : List ℕ). writtenRecord (markerRecord marker)) (marker-written (g .marker) m (g .marked))
 
 -- ---- and nothing is shorter
 
+pub control-size : (m : Marker) → length (writtenControl m) ≡ controlSize
+control-size m = ap length (keyed-listed m)
+
 pub keyed-least : (strict : Bool) (bs : List ℕ) (m : Marker) → KeyedBytes strict bs m → 11 ≤ length bs
 keyed-least strict bs m g =
     let four = bare-length (g .marked) in
     omega (arith, keyed-record-least (g .holds) (g .keyed), length-append (g .marker) (g .rest), four)
-
-pub keyed-lawful : Lawful ControlMode.Keyed
-unfolding grammarOf wayOf wrongOf writesOf
-keyed-lawful =
-    record {
-      reads = record { sound = keyed-sound; complete = keyed-complete };
-      late = λ s p n e. refusal-within (keyed-refuses s p) e;
-      faults = keyed-marker-faults;
-      placeless = keyed-placeless;
-      strict = λ bs m. (keyed-written bs m, λ e. subst (λ (bs : List ℕ). KeyedBytes true bs m) (sym e) (keyed-encodes m));
-      shortest = λ strict bs m g. omega (arith, ap length (keyed-listed m), keyed-least strict bs m g);
-      size = λ m. ap length (keyed-listed m);
-      bytes = keyed-octets;
-    }

@@ -11,7 +11,7 @@ use Rattle.opening.proofs.Single.{refusal, refusal-again}
 use Rattle.markers.specs.declared.ControlBatchRecord.{ControlBatchRecord}
 use Rattle.markers.specs.declared.ControlBatchRecordRead.{ControlBatchRecordRead}
 use Rattle.markers.specs.Markers.{viewMarker, viewMarkerRead}
-use Rattle.markers.specs.Promises.{ReadMarkerPromise, StandsAlone, StandsPromise, PutMarkerPromise}
+use Rattle.markers.specs.Promises.{ReadMarkerPromise, ReadBarePromise, StandsAlone, StandsPromise, PutMarkerPromise}
 
 abbrev pub marker : Marker → ControlBatchRecord
 marker abort = ControlBatchRecord.Abort
@@ -34,8 +34,11 @@ marker-read-again (ControlBatchRecordRead.Refused f) = refusal-again _ _ Control
 pub single-read-marker : (mode : ControlMode) (s : List ℕ) (at : ℕ) → Single (ReadMarkerPromise mode s at)
 single-read-marker mode s at = single-view viewMarkerRead markerRead marker-read-again _
 
+pub single-read-bare : (s : List ℕ) (at : ℕ) → Single (ReadBarePromise s at)
+single-read-bare s at = single-view viewMarkerRead markerRead marker-read-again _
+
 pub single-stands : (mode : ControlMode) (s : List ℕ) (at : ℕ) → Single (StandsPromise mode s at)
 single-stands mode s at = single-exactly (StandsAlone mode s at)
 
-pub single-put-marker : (mode : ControlMode) (m : ControlBatchRecord) (out : List ℕ) (at : ℕ) → Single (PutMarkerPromise mode m out at)
-single-put-marker mode m out at = single-put _ out at
+pub single-put-marker : (m : ControlBatchRecord) (out : List ℕ) (at : ℕ) → Single (PutMarkerPromise m out at)
+single-put-marker m out at = single-put _ out at

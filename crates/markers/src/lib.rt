@@ -18,10 +18,10 @@ ghost use lib.ListN.{length};
 ghost use Rattle.numbers.specs.Exactly.{Exactly};
 ghost use Rattle.primitives.specs.Stands.{Stands};
 ghost use Rattle.layout.specs.declared.ControlMode.{ControlMode};
-ghost use Rattle.opening.specs.Judgement.{endedAt, markerInKey};
+ghost use Rattle.opening.specs.Judgement.{endedAt, markerInKey, keyedMarkerAt};
 ghost use Rattle.markers.specs.Markers.{viewMarker, viewMarkerRead, keyOf, KeyPlace};
-ghost use Rattle.markers.specs.Forms.{writesOf};
-ghost use Rattle.markers.specs.Promises.{ReadMarkerPromise, StandsPromise, PutMarkerPromise};
+ghost use Rattle.markers.specs.Forms.{writtenControl};
+ghost use Rattle.markers.specs.Promises.{ReadMarkerPromise, ReadBarePromise, StandsPromise, PutMarkerPromise};
 
 // The marker that ends a transaction.
 pub enum ControlBatchRecord {
@@ -42,19 +42,24 @@ impl ControlBatchRecord {
 
     const COMMIT: i16 = 1;
 
-    // Nothing follows it in `s`.
+    // Nothing follows it in `s`. A marker that stands alone is refused in either mode.
     pub fn read(mode: ControlMode, s: &[u8], c: Cursor) -> ControlBatchRecordRead
         ensures { λ r. ⌜ ReadMarkerPromise mode (now (s .entry)) (c .at) r ⌝ }
     {
-        match mode {
-            ControlMode::Bare => ControlBatchRecord::read_bare(s, c),
-            ControlMode::Keyed => ControlBatchRecord::read_keyed(s, c),
+        match ControlBatchRecord::read_bare(s, c) {
+            ControlBatchRecordRead::Got(_, _) => ControlBatchRecordRead::Refused(
+                BatchFault::BareMarker,
+            ),
+            ControlBatchRecordRead::Refused(f) => match mode {
+                ControlMode::Bare => ControlBatchRecordRead::Refused(f),
+                ControlMode::Keyed => ControlBatchRecord::read_keyed(s, c),
+            },
         }
     }
 
-    // The version is judged before the type is looked at.
-    fn read_bare(s: &[u8], c: Cursor) -> ControlBatchRecordRead
-        ensures { λ r. ⌜ ReadMarkerPromise ControlMode.Bare (now (s .entry)) (c .at) r ⌝ }
+    // In the form that is withdrawn: version and type stand alone. The version is judged before the type is looked at.
+    pub fn read_bare(s: &[u8], c: Cursor) -> ControlBatchRecordRead
+        ensures { λ r. ⌜ ReadBarePromise (now (s .entry)) (c .at) r ⌝ }
     {
         match c.read_int16(s) {
             Int16Read::Got(version, at_type) => {
@@ -85,7 +90,7 @@ impl ControlBatchRecord {
     // The record is judged first, up to the end of `s`, and then its key. What has been judged is not refused when it is
     // read for its key.
     fn read_keyed(s: &[u8], c: Cursor) -> ControlBatchRecordRead
-        ensures { λ r. ⌜ ReadMarkerPromise ControlMode.Keyed (now (s .entry)) (c .at) r ⌝ }
+        ensures { λ r. ⌜ viewMarkerRead r ≡ keyedMarkerAt (now (s .entry)) (c .at) ⌝ }
     {
         match check_records(s, c.at, 1) {
             RecordsCheck::Accepted {
@@ -129,18 +134,8 @@ impl ControlBatchRecord {
         ensures { λ r. ⌜ StandsPromise mode (now (s .entry)) (c .at) r ⌝ }
     {
         match mode {
-            ControlMode::Bare => ControlBatchRecord::bare_stands(s, c),
+            ControlMode::Bare => false,
             ControlMode::Keyed => ControlBatchRecord::keyed_stands(s, c),
-        }
-    }
-
-    // All that is read is as it is written.
-    fn bare_stands(s: &[u8], c: Cursor) -> bool
-        ensures { λ r. ⌜ StandsPromise ControlMode.Bare (now (s .entry)) (c .at) r ⌝ }
-    {
-        match ControlBatchRecord::read_bare(s, c) {
-            ControlBatchRecordRead::Got(_, _) => true,
-            ControlBatchRecordRead::Refused(_) => false,
         }
     }
 
@@ -150,7 +145,7 @@ impl ControlBatchRecord {
     {
         match ControlBatchRecord::read_keyed(s, c) {
             ControlBatchRecordRead::Got(marker, _) => {
-                let bytes = marker.record_bytes();
+                let bytes = marker.bytes();
                 stand(&bytes, s, c.at)
             }
             ControlBatchRecordRead::Refused(_) => false,
@@ -158,34 +153,16 @@ impl ControlBatchRecord {
     }
 
     // Writes it from `at` on, as far as the output goes, and gives the place after it.
-    pub fn put(self, mode: ControlMode, output: &mut [u8], at: usize) -> usize
-        ensures { λ r. ⌜ PutMarkerPromise mode self (now (output .entry)) at (record { next = r; output = now (output .exit) }) ⌝ }
+    pub fn put(self, output: &mut [u8], at: usize) -> usize
+        ensures { λ r. ⌜ PutMarkerPromise self (now (output .entry)) at (record { next = r; output = now (output .exit) }) ⌝ }
     {
-        match mode {
-            ControlMode::Bare => {
-                let bytes = self.bytes();
-                put(&bytes, output, at)
-            }
-            ControlMode::Keyed => {
-                let bytes = self.record_bytes();
-                put(&bytes, output, at)
-            }
-        }
+        let bytes = self.bytes();
+        put(&bytes, output, at)
     }
 
-    // Version and type, each of two bytes, the highest first.
-    fn bytes(self) -> [u8; 4]
-        ensures { λ r. ⌜ r ≡ writesOf ControlMode.Bare (viewMarker self) ⌝ }
-    {
-        match self {
-            ControlBatchRecord::Abort => [0, 0, 0, 0],
-            ControlBatchRecord::Commit => [0, 0, 0, 1],
-        }
-    }
-
-    // A record whose key they are, with zero deltas, no value and no headers.
-    fn record_bytes(self) -> [u8; 11]
-        ensures { λ r. ⌜ r ≡ writesOf ControlMode.Keyed (viewMarker self) ⌝ }
+    // A record whose key is version and type, each of two bytes, with zero deltas, no value and no headers.
+    fn bytes(self) -> [u8; 11]
+        ensures { λ r. ⌜ r ≡ writtenControl (viewMarker self) ⌝ }
     {
         match self {
             ControlBatchRecord::Abort => [20, 0, 0, 0, 8, 0, 0, 0, 0, 1, 0],

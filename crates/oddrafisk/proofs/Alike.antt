@@ -19,10 +19,12 @@ use Rattle.batches.specs.declared.RecordBatch.{RecordBatch}
 use Rattle.batches.specs.declared.ControlBatchOrRecords.{ControlBatchOrRecords}
 use Rattle.batches.specs.Answers.{Kind, ofRecords, ofMarker, Answer, viewFields}
 use Rattle.batches.specs.Writer.{viewWanted, batchGiven}
+use Rattle.converting.specs.Answers as Converting
 use Rattle.oddrafisk.specs.Entries.{modeOf, typeEntry, flagEntry, kindEntry, is0or1, typeOf, flagOf, kindWanted, entriesAsked}
-use Rattle.oddrafisk.specs.Promises.{Says, entriesGiven, Sizes, timed, timeFor}
-use Rattle.oddrafisk.specs.Statements.{ModeNumbers, ChecksAlike, ReadsAlike, Taken, MeasuresAlike, WritesAlike, CanonicalAlike, TimesAlike, askedKind, EntriesTaken}
+use Rattle.oddrafisk.specs.Promises.{Tells, Says, entriesGiven, Sizes, timed, timeFor}
+use Rattle.oddrafisk.specs.Statements.{ConvertsAlike, ModeNumbers, ChecksAlike, ReadsAlike, Taken, MeasuresAlike, WritesAlike, CanonicalAlike, TimesAlike, askedKind, EntriesTaken}
 use Rattle.oddrafisk.proofs.Tests.{mode-keyed, mode-bare}
+use Rattle.oddrafisk.proofs.Taken.{kind-given}
 
 pub checks-alike : ChecksAlike
 checks-alike mode s r o e p = subst (λ (a : Answer). Says a o) (sym (e .answer)) (p .said)
@@ -53,7 +55,7 @@ given-alike : (mode : ControlMode) (e : List ℤ) (b : RecordBatch) (codec : ℕ
 unfolding batchGiven
 given-alike mode e b codec kind t s taken =
     elim (ℕ-discrete codec 0) [
-      | yes z ↦ rw (z, taken) refl
+      | yes z ↦ rw z (kind-given mode e t s taken)
       | no z ↦ rw (ne-eqb codec 0 z) refl
     ]
 
@@ -73,6 +75,11 @@ writes-alike mode e b codec kind t s out o o′ taken p q =
 pub canonical-alike : CanonicalAlike
 canonical-alike mode s true n e p = p .yes .1 (e .says .0 refl)
 canonical-alike mode s false n e p = p .no .1 (λ is. false≢true (e .says .1 is))
+
+-- ---- the conversion
+
+pub converts-alike : ConvertsAlike
+converts-alike s out o o′ e p = (subst (λ (a : Converting.Answer). Tells a (o′ .said)) (sym (e .answer)) (p .said), p .output ∙ sym (e .output))
 
 -- ---- times
 

@@ -15,6 +15,7 @@ use mir.ValLaws.{toZ-ofZ}
 use Rattle.numbers.specs.Pick.{pick}
 use Rattle.records.specs.Rows.{Tables}
 use Rattle.asking.specs.declared.WriteFault.{WriteFault}
+use Rattle.asking.specs.Answers.{writeNumberOf}
 use Rattle.layout.specs.declared.ControlMode.{ControlMode}
 use Rattle.layout.specs.Batch.{Fields}
 use Rattle.writing.specs.declared.Written.{Written}
@@ -34,10 +35,11 @@ use Rattle.batches.proofs.Again.{none-not-some}
 use Rattle.batches.proofs.Giving.{written-length}
 use Rattle.oddrafisk.specs.declared.asked.BatchAsked.{BatchAsked}
 use Rattle.oddrafisk.specs.declared.asked.KindAsked.{KindAsked}
-use Rattle.oddrafisk.specs.Entries.{modeOf, fieldsFit, fieldsOf, kindWanted, AskedBatch, askedWith, entriesAsked}
-use Rattle.oddrafisk.specs.Promises.{givenFor, entriesGiven, Sizes, MeasurePromise, Handed, WritePromise}
-use Rattle.oddrafisk.specs.Words.{viewAsked, viewKindAsked, WritesFor}
+use Rattle.oddrafisk.specs.Entries.{modeOf, fieldsFit, fieldsOf, kindWanted, bareAsked, AskedBatch, askedWith, entriesAsked}
+use Rattle.oddrafisk.specs.Promises.{givenFor, kindGiven, entriesGiven, Sizes, MeasurePromise, Handed, WritePromise}
+use Rattle.oddrafisk.specs.Words.{viewAsked, viewKindAsked, wrongNumber, WritesFor}
 use Rattle.oddrafisk.proofs.Tests.{is-so, is-not}
+use Rattle.oddrafisk.proofs.Taken.{kind-given}
 use Rattle.oddrafisk.proofs.Fitting.{negated, affirmed}
 
 -- ---- what entries ask for
@@ -95,25 +97,30 @@ module _ (mode : ControlMode) (e : List ℤ) (codec : ℤ) (f : SFits w64 codec)
       (record { answer = refl; output = refl })
 
   module _ (z : ofZ w64 codec ≡ 0) (x : BatchAsked) (v : viewAsked x ≡ entriesAsked e) where
-    given-by : givenFor mode (viewAsked x) t s ≡ gives
-    given-by = rw (is-so codec f 0 (omega arith) z) (ap (λ (a : Option AskedBatch). givenFor mode a t s) v)
+    module _ (w : x ≡ BatchAsked.Wrong) (k : SFits w64 (getD e 10 (pos 0))) (g : WriteFault)
+        (n : writeNumberOf g ≡ wrongNumber mode (toZ w64 (ofZ w64 (getD e 10 (pos 0))))) where
+      by-number : (r : Bool) → pick r (refused 41) (refused 21) ≡ refused (pick r 41 21)
+      by-number true = refl
+      by-number false = refl
 
-    module _ (w : x ≡ BatchAsked.Wrong) where
-      entries-refused : refused 21 ≡ gives
-      entries-refused = ap (λ (x : BatchAsked). givenFor mode (viewAsked x) t s) (sym w) ∙ given-by
+      entries-refused : refused (writeNumberOf g) ≡ gives
+      entries-refused =
+          ap refused (n ∙ ap (wrongNumber mode) (toZ-ofZ w64 (getD e 10 (pos 0)) k))
+          ∙ sym (by-number (bareAsked mode (getD e 10 (pos 0))))
+          ∙ rw (is-so codec f 0 (omega arith) z, sym v ∙ ap viewAsked w) refl
 
-      pub measure-wrong : refuses 21 ≡ measured gives
+      pub measure-wrong : refuses (writeNumberOf g) ≡ measured gives
       measure-wrong = ap measured entries-refused
 
       pub write-wrong : ((i : ℕ) → Fits w8 (getD s i 0)) → (out : List ℕ)
-          → WritesFor mode e codec t s out (record { result = Written.Refused WriteFault.Row; output = out })
+          → WritesFor mode e codec t s out (record { result = Written.Refused g; output = out })
       write-wrong bytes out =
-          writes-for bytes (λ b _ is. none-not-some (ap viewAsked (sym w) ∙ v ∙ is)) (refused 21) entries-refused out _
+          writes-for bytes (λ b _ is. none-not-some (ap viewAsked (sym w) ∙ v ∙ is)) (refused (writeNumberOf g)) entries-refused out _
           (record { answer = refl; output = refl })
 
     module _ (b : RecordBatch) (k : ControlBatchOrRecords) (w : x ≡ BatchAsked.Got b k) where
       entries-given : batchGiven mode (viewFields b) 0 (viewWanted k) t s ≡ gives
-      entries-given = ap (λ (x : BatchAsked). givenFor mode (viewAsked x) t s) (sym w) ∙ given-by
+      entries-given = sym (kind-given mode e t s (sym v ∙ ap viewAsked w)) ∙ rw (is-so codec f 0 (omega arith) z) refl
 
       pub measure-got : (r : Written) → viewWritten r ≡ measured (batchGiven mode (viewFields b) 0 (viewWanted k) t s) → viewWritten r ≡ measured gives
       measure-got r p = p ∙ ap measured entries-given
@@ -137,11 +144,11 @@ batch-short : (mode : ControlMode) (x : Fields) (wanted : Wanted) (t : Tables) (
 batch-short mode x wanted t s (given bs) e =
     let g = given-for mode x 0 wanted t s e in
     let b = shows x s (g .content) in
-    rw (g .bytes) (omega (arith, g .short, content-length mode b, written-length mode b))
+    rw (g .bytes) (omega (arith, g .short, content-length b, written-length b))
 batch-short mode x wanted t s (refused n) e = tt
 
 entries-short : (mode : ControlMode) (e : List ℤ) (codec : ℤ) (t : Tables) (s : List ℕ) → Short (entriesGiven mode e codec t s)
-entries-short mode e codec t s = pick-short (is 0 codec) (givenFor mode (entriesAsked e) t s) (for (entriesAsked e))
+entries-short mode e codec t s = pick-short (is 0 codec) (kindGiven mode e t s) (kind (bareAsked mode (getD e 10 (pos 0))))
   where
     pick-short : (b : Bool) (g : Given) → Short g → Short (pick b g (refused 20))
     pick-short true g h = h
@@ -150,6 +157,10 @@ entries-short mode e codec t s = pick-short (is 0 codec) (givenFor mode (entries
     for : (a : Option AskedBatch) → Short (givenFor mode a t s)
     for none = tt
     for (some b) = batch-short mode (b .fields) (b .wanted) t s _ refl
+
+    kind : (r : Bool) → Short (pick r (refused 41) (givenFor mode (entriesAsked e) t s))
+    kind true = tt
+    kind false = for (entriesAsked e)
 
 measured-short : (g : Given) → Short g → measured g .bytes ≤ 2147483659
 measured-short (given bs) h = h

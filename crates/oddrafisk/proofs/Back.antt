@@ -24,7 +24,7 @@ use Rattle.layout.specs.Batch.{Fields, abort, commit, Content, control, records
 use Rattle.layout.specs.Format.{BatchBytes}
 use Rattle.writing.specs.declared.Written.{Written}
 use Rattle.writing.specs.Answers as Writing
-use Rattle.writing.specs.Answers.{writes, given, refused, measured, answerDue}
+use Rattle.writing.specs.Answers.{writes, Given, given, refused, measured, answerDue}
 use Rattle.writing.proofs.Outcomes.{Numbered, put}
 use Rattle.opening.specs.Judgement.{is, Judgement, more, accepted, Accepted, judge}
 use Rattle.opening.specs.Judgement as Judging
@@ -37,50 +37,21 @@ use Rattle.batches.proofs.Again.{none-not-some}
 use Rattle.batches.proofs.Complete.{complete}
 use Rattle.batches.proofs.Encodes.{shows}
 use Rattle.batches.proofs.Filled.{stored-filled}
-use Rattle.batches.proofs.Given.{given-not-refused, pick-given, given-for, given-encodes}
+use Rattle.batches.proofs.Given.{given-not-refused, pick-given, given-for, marker-asked, given-encodes}
 use Rattle.batches.proofs.Own.{rewritten, Own, own, own-given, in-width}
 use Rattle.batches.proofs.Sound.{sound}
 use Rattle.batches.proofs.Written.{pick-numbered, given-numbered}
 use Rattle.batches.proofs.Demand2.{refused-some}
 use Rattle.batches.proofs.ReadsBack.{counts-same, kind-same, room-enough}
-use Rattle.numbers.proofs.Picks.{both-hold}
 use Rattle.primitives.proofs.Steps.{map-ok}
 use Rattle.opening.proofs.Tests.{is-true}
-use Rattle.oddrafisk.specs.Entries.{typeEntry, flagEntry, kindEntry, entriesOf, is0or1, widthsFit, flagsFit, fieldsFit, typeOf, flagOf, fieldsOf, rowsOf, kindWanted, AskedBatch, askedWith, entriesAsked}
-use Rattle.oddrafisk.specs.Promises.{Outcome, ReadOutcome, ReadPromise, givenFor, entriesGiven, Sizes}
+use Rattle.oddrafisk.specs.Entries.{typeEntry, flagEntry, kindEntry, entriesOf, is0or1, typeOf, flagOf, fieldsOf, rowsOf, bareAsked, AskedBatch, entriesAsked}
+use Rattle.oddrafisk.specs.Promises.{Outcome, ReadOutcome, ReadPromise, givenFor, kindGiven, entriesGiven, Sizes}
 use Rattle.oddrafisk.specs.Statements.{askedKind, SameInC, ReadsBackInC, HandsOn, HandedOn}
+use Rattle.oddrafisk.proofs.Taken.{pick-some, Taken, taken, kind-given}
 use Rattle.oddrafisk.proofs.Alike.{entries-taken}
 
--- ---- which way a test went
-
-pick-some : {A : Type 0} (t : Bool) (x : Option A) {a : A} → pick t x none ≡ some a → (t ≡ true) × (x ≡ some a)
-pick-some true x e = (refl, e)
-pick-some false x e = none-not-some e
-
--- ---- what entries ask for
-
--- entries that are taken, one by one
-record Taken (e : List ℤ) (b : AskedBatch) : Type 0 where
-  type-fits : is0or1 (getD e 8 (pos 0)) ≡ true
-  flag-fits : is0or1 (getD e 9 (pos 0)) ≡ true
-  fields : b .fields ≡ fieldsOf e
-  kind : kindWanted (getD e 10 (pos 0)) (getD e 11 (pos 0)) ≡ some (b .wanted)
-
-asked-with : (x : Fields) (w : Option Wanted) {b : AskedBatch} → askedWith x w ≡ some b → (b .fields ≡ x) × (w ≡ some (b .wanted))
-asked-with x none e = none-not-some e
-asked-with x (some w) {b} e =
-    let same : record { fields = x; wanted = w } ≡ b = cc in
-    (ap (λ (a : AskedBatch). a .fields) (sym same), ap (λ (a : AskedBatch). some (a .wanted)) same)
-
-taken : (e : List ℤ) {b : AskedBatch} → entriesAsked e ≡ some b → Taken e b
-unfolding entriesAsked
-taken e {b} is =
-    let (fits, asks) = pick-some (fieldsFit e) _ is in
-    let (fields, kind) = asked-with (fieldsOf e) _ asks in
-    let (_, flags) = both-hold (widthsFit e) (flagsFit e) fits in
-    let (type, rest) = both-hold (is0or1 (getD e 8 (pos 0))) _ flags in
-    let (flag, _) = both-hold (is0or1 (getD e 9 (pos 0))) _ rest in
-    record { type-fits = type; flag-fits = flag; fields = fields; kind = kind }
+-- ---- entries that were read again
 
 zero-or-one : (z : ℤ) (a : Bool) → is 0 z ≡ a → pick a true (is 1 z) ≡ true → (z ≡ pos 0) ⊎ (z ≡ pos 1)
 zero-or-one z true e f = inl (is-true 0 z e)
@@ -120,10 +91,10 @@ kind-told z n {w} false false d e f g i =
     let (t, r) = pick-some d (rowsOf n) i in
     ap kindEntry (rows-kind n r) ∙ sym (is-true 0 z (g ∙ t))
 
-content-kind : (w : Wanted) (t : Tables) (s : List ℕ) {c : Content RecordSpans} {p : RowPlace} → contentAsked w t s ≡ ok c p
+content-kind : (mode : ControlMode) (w : Wanted) (t : Tables) (s : List ℕ) {c : Content RecordSpans} {p : RowPlace} → contentAsked mode w t s ≡ ok c p
     → kindOf c ≡ wantedKind w
-content-kind (marker m) t s {c} e = let same : control m ≡ c = cc in ap kindOf (sym same)
-content-kind (rows n) t s e = let (rs, _, same) = map-ok records (recordsAsked t s 0 n) e in ap kindOf (sym same)
+content-kind mode (marker m) t s e = ap kindOf (sym (marker-asked mode m e .0))
+content-kind mode (rows n) t s e = let (rs, _, same) = map-ok records (recordsAsked t s 0 n) e in ap kindOf (sym same)
 
 -- ---- eleven entries
 
@@ -157,7 +128,7 @@ module _ (e : List ℤ) (x : Fields) (k : Kind) (n m bytes : ℕ) where
 -- ---- an encoding of what was asked for is read as that
 
 module _ (mode : ControlMode) (e : List ℤ) (b : AskedBatch) (t : Tables) (source : List ℕ) (c : Content RecordSpans) (p : RowPlace) (w : entriesAsked e ≡ some b)
-    (is-asked : contentAsked (b .wanted) t source ≡ ok c p) where
+    (is-asked : contentAsked mode (b .wanted) t source ≡ ok c p) where
   same-in-c : (bs after : List ℕ) (t′ : Tables) (o : ReadOutcome) → BatchBytes mode true bs (shows (b .fields) source c)
       → ReadPromise mode (bs ++ after) t′ o → Enough c t′ → SameInC e c source (length bs) (bs ++ after) t′ o
   same-in-c bs after t′ o g promise enough =
@@ -171,7 +142,7 @@ module _ (mode : ControlMode) (e : List ℤ) (b : AskedBatch) (t : Tables) (sour
       let stores : o .tables ≡ stored (read .content) 0 t′ = promise .tables ∙ rw (judged, room) refl in
       let (many, headers) = counts-same s source (read .content) c same in
       let y = taken e w in
-      let kind = ap kindEntry (kind-same s source (read .content) c same ∙ content-kind (b .wanted) t source is-asked)
+      let kind = ap kindEntry (kind-same s source (read .content) c same ∙ content-kind mode (b .wanted) t source is-asked)
       ∙ kind-told (getD e 10 (pos 0)) (getD e 11 (pos 0)) _ _ _ refl refl refl (y .kind) in
       record {
         number = promise .said .number ∙ ap (λ (a : Answer). a .number) answer;
@@ -191,7 +162,16 @@ for-numbered mode none t s = omega arith
 for-numbered mode (some b) t s = given-numbered mode (b .fields) 0 (b .wanted) t s
 
 entries-numbered : (mode : ControlMode) (e : List ℤ) (codec : ℤ) (t : Tables) (s : List ℕ) → Numbered (entriesGiven mode e codec t s)
-entries-numbered mode e codec t s = pick-numbered (is 0 codec) (givenFor mode (entriesAsked e) t s) 20 (for-numbered mode (entriesAsked e) t s) (omega arith)
+entries-numbered mode e codec t s = pick-numbered (is 0 codec) (kindGiven mode e t s) 20 (kind-numbered (bareAsked mode (getD e 10 (pos 0)))) (omega arith)
+  where
+    kind-numbered : (r : Bool) → Numbered (pick r (refused 41) (givenFor mode (entriesAsked e) t s))
+    kind-numbered true = omega arith
+    kind-numbered false = for-numbered mode (entriesAsked e) t s
+
+-- where bytes are given, no marker was asked for in bare mode
+pick-not-refused : (r : Bool) (g : Given) {bs : List ℕ} → pick r (refused 41) g ≡ given bs → g ≡ given bs
+pick-not-refused true g e = given-not-refused (sym e)
+pick-not-refused false g e = e
 
 given-asked : (mode : ControlMode) (a : Option AskedBatch) (t : Tables) (s : List ℕ) {bs : List ℕ} → givenFor mode a t s ≡ given bs
     → (b : AskedBatch) × (a ≡ some b) × (batchGiven mode (b .fields) 0 (b .wanted) t s ≡ given bs)
@@ -205,7 +185,8 @@ reads-back-in-c mode e codec t s out w promise zero =
     let n : ℕ = due .bytes in
     let x = put (entriesGiven mode e codec t s) (entries-numbered mode e codec t s) 0 n out (record { result = Written.Bytes n; output = w .output })
     (λ i. record { number = none i; bytes = n }) (promise .output) in
-    let (codec-is, for) = pick-given (is 0 codec) (givenFor mode (entriesAsked e) t s) 20 (x .is) in
+    let (codec-is, kind) = pick-given (is 0 codec) (kindGiven mode e t s) 20 (x .is) in
+    let for = pick-not-refused (bareAsked mode (getD e 10 (pos 0))) (givenFor mode (entriesAsked e) t s) kind in
     let (b, asks, gives) = given-asked mode (entriesAsked e) t s for in
     let g = given-for mode (b .fields) 0 (b .wanted) t s gives in
     let encodes = given-encodes mode (b .fields) (b .wanted) t s (promise .handed .fields b codec-is asks) (promise .handed .source) g in
@@ -241,16 +222,17 @@ module _ (mode : ControlMode) (s : List ℕ) (t : Tables) (o : ReadOutcome) (pro
   stores : o .tables ≡ stored (a .content) 0 t
   stores = promise .tables ∙ rw (j, room) (ap (λ (row : ℕ). stored (a .content) row t) (mine .first))
 
-  gives : entriesGiven mode (o .said .answer) (pos 0) (o .tables) s ≡ given (rewritten mode s a)
+  gives : entriesGiven mode (o .said .answer) (pos 0) (o .tables) s ≡ given (rewritten s a)
   gives =
       let (e, _) = sound mode s 0 0 a (promise .lent) j in
       let asks = entries-taken (a .fields) (kindOf (a .content)) (recordsIn (a .content)) (headersOf (a .content)) (a .consumed) (in-width (e .encodes)) in
       (λ i. entriesGiven mode (told i) (pos 0) (stores i) s)
-      ∙ rw asks (ap (λ (w : Wanted). batchGiven mode (a .fields) 0 w (stored (a .content) 0 t) s) (asked-kind (a .content)))
+      ∙ kind-given mode (entriesOf (acceptedAs a)) (stored (a .content) 0 t) s asks
+      ∙ ap (λ (w : Wanted). batchGiven mode (a .fields) 0 w (stored (a .content) 0 t) s) (asked-kind (a .content))
       ∙ own-given t mine (ap (λ (row : ℕ). hasRoom (a .content) row (roomsOf t)) (sym (mine .first)) ∙ room)
 
-  says-so : (m : Outcome) {g : Writing.Answer} → Sizes g m → g ≡ writes (length (rewritten mode s a))
-      → m ≡ record { number = 0; answer = pos (length (rewritten mode s a)) ∷ [] }
+  says-so : (m : Outcome) {g : Writing.Answer} → Sizes g m → g ≡ writes (length (rewritten s a))
+      → m ≡ record { number = 0; answer = pos (length (rewritten s a)) ∷ [] }
   says-so m x e =
       λ i. record {
         number = (x .number ∙ ap (λ (g : Writing.Answer). g .number) e) i;
@@ -262,7 +244,7 @@ handed-on mode s t o promise zero = by (judge mode s) refl (promise .said .numbe
   where
     with-room : (a : Accepted) → judge mode s ≡ accepted a → hasRoom (a .content) (a .firstHeader) (roomsOf t) ≡ true → HandsOn mode s t o
     with-room a j room =
-        let bs = rewritten mode s a in
+        let bs = rewritten s a in
         let is = gives mode s t o promise a j room in
         let less = mine mode s t o promise a j room .within in
         record {

@@ -3,11 +3,12 @@
 use Prim.Native.Nat.{ℕ, suc, _+_, _*_, _-_, _<_, _≤_, _^_}
 use mathlib.Core.Path.{_≡_, refl, subst}
 use mathlib.Core.Bool.{Bool, true, false}
+use mathlib.Core.Logic.{inl, inr}
 use mathlib.Core.Option.{none}
 use mathlib.Core.List.{List}
 use native.Mathlib.Omega.{arith}
 use borrow.Author.Tests.{ltb-true, eqb-true}
-use lib.Dec.{ltb, eqb}
+use lib.Dec.{leb, ltb, eqb}
 use lib.IntN.{pos, negsuc}
 use lib.ListN.{length, take, length-take}
 use Rattle.numbers.specs.Pick.{pick}
@@ -24,7 +25,12 @@ use Rattle.opening.specs.Judgement.{Control, Judged, more, refused, accepted, A
 use Rattle.opening.proofs.Tests.{Totals, few, low, short, unknown, lacking, there, totals}
 use Rattle.batches.specs.Answers.{wants, recordsIn, headersOf, acceptedAs, lacksRoom, answerWithRoom, hasRoom, answerOf}
 use Rattle.batches.proofs.Passed.{passed}
-use Rattle.oddrafisk.specs.Statements.{Counted, CheckCounted, ReadCounted}
+use Rattle.converting.specs.Conversion.{Conversion, rekeyed, copied}
+use Rattle.converting.specs.Answers as Converting
+use Rattle.converting.proofs.Cases as Cases
+use Rattle.converting.proofs.Copying.{rekeyed-length}
+use Rattle.converting.proofs.Giving.{bare}
+use Rattle.oddrafisk.specs.Statements.{Counted, CheckCounted, ReadCounted, ConvertCounted}
 
 signed-below : (half v n : ℕ) → signedBy half v ≡ pos n → n < half
 unfolding signedBy
@@ -130,3 +136,32 @@ read-counted mode s r = go (judge mode s) refl
         either : (t : Bool) → Counted (pick t (acceptedAs b) (lacksRoom (recordsIn (b .content)) (headersOf (b .content))))
         either true = fits mode s b e
         either false = let (x, y, _) = accepted-counted mode s b e in record { records = x; headers = y; bytes = omega arith }
+
+-- ---- the conversion
+
+abbrev pub Told : Converting.Answer → Type 0
+Told a = (a .taken ≤ 2147483659) × (a .given ≤ 2147483659)
+
+given-told : (c : Conversion) (room : ℕ) → c .taken ≤ 2147483659 → length (c .given) ≤ 2147483659 → Told (Converting.answerOf (accepted c) room)
+given-told c room h k = go (leb (length (c .given)) room)
+  where
+    go : (r : Bool) → Told (pick r (Converting.gives (c .taken) (length (c .given))) (Converting.refuses 24))
+    go true = (h, k)
+    go false = (omega arith, omega arith)
+
+copied-told : (s : List ℕ) (room : ℕ) (j : Judgement) → judge ControlMode.Keyed s ≡ j → Told (Converting.answerOf (copied s j) room)
+copied-told s room (more n) e = (more-counted ControlMode.Keyed s n e, omega arith)
+copied-told s room (refused n) e = (omega arith, omega arith)
+copied-told s room (accepted b) e =
+    let (_, _, n) = accepted-counted ControlMode.Keyed s b e in
+    given-told (record { taken = b .consumed; given = take (b .consumed) s }) room n (omega (arith, n, length-take (b .consumed) s))
+
+pub convert-counted : ConvertCounted
+convert-counted s room bytes =
+    elim (Cases.either s) [
+      | inl (_, _, e) ↦
+          let x = bare s bytes e in
+          let long = rekeyed-length s (x .marker) (omega (arith, x .within)) in
+          rw (x .conversion) (given-told (record { taken = 65; given = rekeyed s (x .marker) }) room (omega arith) (omega (arith, long)))
+      | inr (e, _) ↦ rw e (copied-told s room (judge ControlMode.Keyed s) refl)
+    ]

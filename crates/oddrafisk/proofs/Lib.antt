@@ -6,6 +6,8 @@ mod Fitting
 mod Listed
 mod Saying
 pub mod Single
+mod Taken
+mod Telling
 mod Tests
 pub mod WorkedEntries
 pub mod WorkedKinds

@@ -12,7 +12,8 @@ use Rattle.writing.specs.Answers as Writing
 use Rattle.layout.specs.declared.ControlMode.{ControlMode}
 use Rattle.batches.specs.Answers.{Answer}
 use Rattle.batches.specs.Promises.{Canonical}
-use Rattle.oddrafisk.specs.Promises.{Outcome, Says, CheckPromise, ReadPromise, Sizes, MeasurePromise, WritePromise, CanonicalPromise, RecordTimePromise, Crc32cPromise, VersionPromise}
+use Rattle.converting.specs.Answers as Converting
+use Rattle.oddrafisk.specs.Promises.{Outcome, Says, CheckPromise, ReadPromise, Sizes, MeasurePromise, WritePromise, Tells, ConvertPromise, CanonicalPromise, RecordTimePromise, Crc32cPromise, VersionPromise}
 
 -- ---- what is said
 
@@ -43,6 +44,15 @@ pub single-write : (mode : ControlMode) (e : List ℤ) (codec : ℤ) (t : Tables
 single-write mode e codec t s out o o′ w w′ =
     let p = single-sizes _ (o .said) (o′ .said) (w .said) (w′ .said) in
     let q = w .output ∙ sym (w′ .output) in
+    λ i. record { said = p i; output = q i }
+
+single-tells : (a : Converting.Answer) → Single (Tells a)
+single-tells a o o′ e e′ = said-same o o′ (e .number ∙ sym (e′ .number)) (e .answer ∙ sym (e′ .answer))
+
+pub single-convert : (s out : List ℕ) → Single (ConvertPromise s out)
+single-convert s out o o′ e e′ =
+    let p = single-tells _ (o .said) (o′ .said) (e .said) (e′ .said) in
+    let q = e .output ∙ sym (e′ .output) in
     λ i. record { said = p i; output = q i }
 
 pub single-is-canonical : (mode : ControlMode) (s : List ℕ) → Single (CanonicalPromise mode s)

@@ -20,6 +20,7 @@ use Rattle.layout.specs.declared.ControlMode.{ControlMode}
 use Rattle.layout.specs.Batch.{abort, commit, createTime, logAppendTime}
 use Rattle.opening.specs.Judgement.{is}
 use Rattle.batches.specs.Writer.{marker, rows}
+use Rattle.oddrafisk.specs.Words.{wrongNumber}
 use Rattle.oddrafisk.specs.Entries.{modeOf, is0or1, typeOf, rowsOf, kindWanted}
 
 -- ---- the mode
@@ -90,6 +91,18 @@ module _ (z : ℤ) (fits : SFits w64 z) where
 
   pub type-1 : (ofZ w64 z ≡ 0 → ⊥) → logAppendTime ≡ typeOf z
   type-1 e = rw (is-not 0 (omega arith) e) refl
+
+  -- in bare mode a marker's number is told from all others
+  module _ (mode : ControlMode) (bare : mode ≡ ControlMode.Bare) where
+    pub bare-1 : ofZ w64 z ≡ 1 → 41 ≡ wrongNumber mode z
+    bare-1 e = rw (bare, is-so 1 (omega arith) e) refl
+
+    module _ (a : ofZ w64 z ≡ 1 → ⊥) where
+      pub bare-2 : ofZ w64 z ≡ 2 → 41 ≡ wrongNumber mode z
+      bare-2 e = rw (bare, is-not 1 (omega arith) a, is-so 2 (omega arith) e) refl
+
+      pub bare-other : (ofZ w64 z ≡ 2 → ⊥) → 21 ≡ wrongNumber mode z
+      bare-other e = rw (bare, is-not 1 (omega arith) a, is-not 2 (omega arith) e) refl
 
   module _ (n : ℤ) where
     pub kind-1 : ofZ w64 z ≡ 1 → some (marker abort) ≡ kindWanted z n

@@ -115,6 +115,11 @@ rowsOf (negsuc k) = none
 abbrev pub kindWanted : ℤ → ℤ → Option Wanted
 kindWanted z n = pick (is 1 z) (some (marker abort)) (pick (is 2 z) (some (marker commit)) (pick (is 0 z) (rowsOf n) none))
 
+-- C-24: a marker, in the mode in which none is written
+abbrev pub bareAsked : ControlMode → ℤ → Bool
+bareAsked ControlMode.Bare z = pick (is 1 z) true (is 2 z)
+bareAsked ControlMode.Keyed z = false
+
 -- what the entries ask for
 pub record AskedBatch : Type 0 where
   pub fields : Fields

@@ -9,6 +9,7 @@ use mathlib.Core.Bool.{true, false}
 use mathlib.Core.Option.{Option, none, some}
 use mathlib.Core.List.{List, [], _∷_}
 use lib.IntN.{ℤ, pos}
+use lib.ListN.{length, getD}
 use Rattle.numbers.specs.Bytes.{Bytes}
 use Rattle.numbers.specs.Pick.{pick}
 use Rattle.numbers.specs.Exactly.{Exactly}
@@ -24,7 +25,9 @@ use Rattle.batches.specs.Answers.{Answer, answerWithRoom, roomsOf, answerOf, ta
 use Rattle.batches.specs.Writer.{batchGiven}
 use Rattle.batches.specs.Request.{InWidth}
 use Rattle.batches.specs.Promises.{Canonical}
-use Rattle.oddrafisk.specs.Entries.{entriesOf, is0or1, typeOf, AskedBatch, entriesAsked}
+use Rattle.converting.specs.Answers as Converting
+use Rattle.converting.specs.Conversion.{conversionOf}
+use Rattle.oddrafisk.specs.Entries.{entriesOf, is0or1, typeOf, bareAsked, AskedBatch, entriesAsked}
 
 -- ---- the reader
 
@@ -61,9 +64,14 @@ abbrev pub givenFor : ControlMode → Option AskedBatch → Tables → List ℕ 
 givenFor mode none t s = refused 21
 givenFor mode (some b) t s = batchGiven mode (b .fields) 0 (b .wanted) t s
 
--- document 01, Writer's numbers, in their order: the codec, then the entries, then as RecordBatch::write
+-- C-24: a marker in bare mode is refused by 41, whatever the other entries are
+abbrev pub kindGiven : ControlMode → List ℤ → Tables → List ℕ → Given
+kindGiven mode e t s = pick (bareAsked mode (getD e 10 (pos 0))) (refused 41) (givenFor mode (entriesAsked e) t s)
+
+-- document 01, Writer's numbers, as C-24 has them, in their order: the codec, then a marker in bare mode, then the
+-- entries, then as RecordBatch::write
 abbrev pub entriesGiven : ControlMode → List ℤ → ℤ → Tables → List ℕ → Given
-entriesGiven mode e codec t s = pick (is 0 codec) (givenFor mode (entriesAsked e) t s) (refused 20)
+entriesGiven mode e codec t s = pick (is 0 codec) (kindGiven mode e t s) (refused 20)
 
 -- what says the number, and the length
 pub record Sizes (a : Writing.Answer) (o : Outcome) : Type 0 where
@@ -89,6 +97,24 @@ pub record WritePromise (mode : ControlMode) (e : List ℤ) (codec : ℤ) (t : T
   pub handed : Handed e codec s
   pub said : Sizes (answerDue 0 out (entriesGiven mode e codec t s)) (o .said)
   pub output : o .output ≡ outputDue 0 out (entriesGiven mode e codec t s)
+
+-- ---- the conversion
+
+-- what says the number, and two numbers: the bytes taken, or needed, and the bytes given
+pub record Tells (a : Converting.Answer) (o : Outcome) : Type 0 where
+  pub number : o .number ≡ a .number
+  pub answer : o .answer ≡ pos (a .taken) ∷ pos (a .given) ∷ []
+
+-- with the output at exit
+pub record ConvertOutcome : Type 0 where
+  pub said : Outcome
+  pub output : List ℕ
+
+-- oddrafisk_convert, on bytes s and an output: as convert
+pub record ConvertPromise (s out : List ℕ) (o : ConvertOutcome) : Type 0 where
+  pub lent : Bytes s
+  pub said : Tells (Converting.answerOf (conversionOf s) (length out)) (o .said)
+  pub output : o .output ≡ Converting.outputOf (conversionOf s) out
 
 -- ---- the rest
 
@@ -136,9 +162,9 @@ Crc32cPromise s r = Checksum.Crc32cPromise s r
 abbrev pub numbered : (major minor patch : ℕ) → ℕ
 numbered major minor patch = major * 1000000 + minor * 1000 + patch
 
--- this library's version, 0.3.0
+-- this library's version, 0.4.0
 abbrev pub version : ℕ
-version = numbered 0 3 0
+version = numbered 0 4 0
 
 -- oddrafisk_version
 abbrev pub VersionPromise : ℕ → Type 0

@@ -7,6 +7,7 @@ use mathlib.Core.Option.{some}
 use mathlib.Core.List.{List, [], _∷_, _++_}
 use lib.IntN.{ℤ, pos}
 use lib.ListN.{length, take, getD}
+use Rattle.numbers.specs.Bytes.{Bytes}
 use Rattle.numbers.specs.Pick.{pick}
 use Rattle.primitives.specs.Step.{ok}
 use Rattle.records.specs.Judgement.{RecordSpans}
@@ -30,8 +31,12 @@ use Rattle.batches.specs.Request.{InWidth}
 use Rattle.batches.specs.Filled.{Filled}
 use Rattle.batches.specs.Demand2.{Enough}
 use Rattle.numbers.specs.Exactly.{Exactly}
+use Rattle.converting.specs.Answers as Converting
+use Rattle.converting.specs.Answers.{viewConverted}
+use Rattle.converting.specs.Conversion.{conversionOf}
+use Rattle.converting.specs.Promises as Conversions
 use Rattle.oddrafisk.specs.Entries.{modeOf, typeEntry, entriesOf, AskedBatch, entriesAsked}
-use Rattle.oddrafisk.specs.Promises.{Outcome, Says, CheckPromise, ReadOutcome, ReadPromise, Sizes, MeasurePromise, WriteOutcome, WritePromise, CanonicalPromise, timeFor}
+use Rattle.oddrafisk.specs.Promises.{Outcome, Says, CheckPromise, ReadOutcome, ReadPromise, Sizes, MeasurePromise, WriteOutcome, WritePromise, Tells, ConvertOutcome, ConvertPromise, CanonicalPromise, timeFor}
 
 -- ---- the mode
 
@@ -53,6 +58,12 @@ CheckCounted = (mode : ControlMode) (s : List ℕ) → Counted (answerWithRoom (
 
 abbrev pub ReadCounted : Type 0
 ReadCounted = (mode : ControlMode) (s : List ℕ) (r : Rooms) → Counted (answerOf (judge mode s) r)
+
+-- So are the bytes that a conversion takes and gives, and those that it needs.
+abbrev pub ConvertCounted : Type 0
+ConvertCounted =
+    (s : List ℕ) (room : ℕ) → Bytes s
+    → (Converting.answerOf (conversionOf s) room .taken ≤ 2147483659) × (Converting.answerOf (conversionOf s) room .given ≤ 2147483659)
 
 -- ---- the layer below
 
@@ -92,6 +103,12 @@ abbrev pub CanonicalAlike : Type 0
 CanonicalAlike =
     (mode : ControlMode) (s : List ℕ) (r : Bool) (n : ℕ) → Batches.CanonicalPromise mode s r → CanonicalPromise mode s n → n ≡ pick r 1 0
 
+-- It says what convert answers, and leaves the same output.
+abbrev pub ConvertsAlike : Type 0
+ConvertsAlike =
+    (s out : List ℕ) (o : Conversions.ConvertOutcome) (o′ : ConvertOutcome) → Conversions.ConvertPromise s out o → ConvertPromise s out o′
+    → Tells (viewConverted (o .result)) (o′ .said) × (o′ .output ≡ o .output)
+
 -- It tells times as RecordBatch::record_time does, of the fields that it is handed.
 abbrev pub TimesAlike : Type 0
 TimesAlike =
@@ -114,11 +131,11 @@ EntriesTaken =
 -- ---- what is written reads back
 
 -- what entries, tables and a source ask for: a marker, or records whose spans lie in the source
-pub record AsksFor (e : List ℤ) (t : Tables) (s : List ℕ) (c : Content RecordSpans) : Type 0 where
+pub record AsksFor (mode : ControlMode) (e : List ℤ) (t : Tables) (s : List ℕ) (c : Content RecordSpans) : Type 0 where
   pub batch : AskedBatch
   pub taken : entriesAsked e ≡ some batch
   pub place : RowPlace
-  pub is : contentAsked (batch .wanted) t s ≡ ok c place
+  pub is : contentAsked mode (batch .wanted) t s ≡ ok c place
 
 -- What is read from the bytes s: number 0; the ten fields and the kind as the entries have them; the counts of what was
 -- asked for, and as many bytes as were written; and records (or a marker) that show in s what those asked for show in
@@ -137,7 +154,7 @@ pub record SameInC (e : List ℤ) (c : Content RecordSpans) (source : List ℕ) 
 -- being lent
 pub record WrittenInC (mode : ControlMode) (e : List ℤ) (t : Tables) (s : List ℕ) (w : WriteOutcome) : Type 0 where
   pub content : Content RecordSpans
-  pub asked : AsksFor e t s content
+  pub asked : AsksFor mode e t s content
   pub size : ℕ
   pub answer-is : w .said .answer ≡ pos size ∷ []
   pub reads : (after : List ℕ) (t′ : Tables) (o : ReadOutcome) → ReadPromise mode (take size (w .output) ++ after) t′ o

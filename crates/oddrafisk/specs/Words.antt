@@ -3,6 +3,7 @@ use Prim.Native.Nat.{ℕ}
 use mathlib.Core.Option.{Option, none, some}
 use mathlib.Core.List.{List}
 use lib.IntN.{ℤ}
+use Rattle.numbers.specs.Pick.{pick}
 use Rattle.records.specs.Rows.{Tables}
 use Rattle.writing.specs.Promises.{WriteOutcome, WriteBy}
 use Rattle.layout.specs.declared.ControlMode.{ControlMode}
@@ -10,7 +11,7 @@ use Rattle.batches.specs.Answers.{Answer, viewFields}
 use Rattle.batches.specs.Writer.{Wanted, viewWanted}
 use Rattle.oddrafisk.specs.declared.asked.BatchAsked.{BatchAsked}
 use Rattle.oddrafisk.specs.declared.asked.KindAsked.{KindAsked}
-use Rattle.oddrafisk.specs.Entries.{AskedBatch}
+use Rattle.oddrafisk.specs.Entries.{bareAsked, AskedBatch}
 use Rattle.oddrafisk.specs.Promises.{Handed, entriesGiven}
 
 abbrev pub viewAsked : BatchAsked → Option AskedBatch
@@ -20,6 +21,10 @@ viewAsked BatchAsked.Wrong = none
 abbrev pub viewKindAsked : KindAsked → Option Wanted
 viewKindAsked (KindAsked.Got k) = some (viewWanted k)
 viewKindAsked KindAsked.Wrong = none
+
+-- the number of entries that no batch has
+abbrev pub wrongNumber : ControlMode → ℤ → ℕ
+wrongNumber mode z = pick (bareAsked mode z) 41 21
 
 -- counts alone
 abbrev pub countsOf : ℕ → ℕ → ℕ → Answer

@@ -1,4 +1,5 @@
 // What numbers ask for: the form of control batches, the entries of a batch to be written, and the time of a record.
+use asking::WriteFault;
 use batches::ControlBatchOrRecords;
 use batches::RecordBatch;
 use layout::ControlMode;
@@ -8,12 +9,13 @@ use markers::ControlBatchRecord;
 ghost use mathlib.Core.Path.{_≡_};
 ghost use mathlib.Core.Bool.{true};
 ghost use Rattle.numbers.specs.Format.{inBits};
+ghost use Rattle.asking.specs.Answers.{writeNumberOf};
 ghost use Rattle.layout.specs.Fixed.{viewType};
 ghost use Rattle.layout.specs.Time.{viewTime};
 ghost use Rattle.batches.specs.Answers.{viewFields};
 ghost use Rattle.oddrafisk.specs.Entries.{modeOf, is0or1, widthsFit, flagsFit, fieldsFit, typeOf, fieldsOf, kindWanted, entriesAsked};
 ghost use Rattle.oddrafisk.specs.Promises.{timeFor};
-ghost use Rattle.oddrafisk.specs.Words.{viewAsked, viewKindAsked};
+ghost use Rattle.oddrafisk.specs.Words.{viewAsked, viewKindAsked, wrongNumber};
 
 // The number of the keyed mode.
 const KEYED: u32 = 1;
@@ -40,7 +42,7 @@ const TIMESTAMP_TYPE: usize = 8;
 
 const IS_TRANSACTIONAL: usize = 9;
 
-const KIND: usize = 10;
+pub(crate) const KIND: usize = 10;
 
 const RECORDS: usize = 11;
 
@@ -198,6 +200,24 @@ fn kind_asked(kind: i64, records: i64) -> KindAsked
         return KindAsked::Wrong;
     }
     KindAsked::Got(ControlBatchOrRecords::Records(records as usize))
+}
+
+// Why entries that no batch has are refused: a marker in bare mode is refused whatever the other entries are.
+pub(crate) fn entries_fault(mode: ControlMode, kind: i64) -> WriteFault
+    ensures { λ r. ⌜ writeNumberOf r ≡ wrongNumber mode kind ⌝ }
+{
+    match mode {
+        ControlMode::Bare => {
+            if kind == 1 {
+                return WriteFault::BareMarker;
+            }
+            if kind == 2 {
+                return WriteFault::BareMarker;
+            }
+            WriteFault::Row
+        }
+        ControlMode::Keyed => WriteFault::Row,
+    }
 }
 
 // A type of neither number has no times.

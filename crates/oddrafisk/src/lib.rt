@@ -4,24 +4,29 @@ mod asked;
 mod said;
 
 use asked::BatchAsked;
+use asked::KIND;
 use asked::batch_asked;
+use asked::entries_fault;
 use asked::mode_of;
 use asked::time_asked;
 use asking::WriteFault;
 use batches::RecordBatch;
+use converting::convert;
 use crc32c::crc32c;
 use layout::ControlMode;
 use layout::RecordTime;
+use said::conversion_number;
 use said::length_of;
 use said::number_of;
 use said::said_of_check;
 use said::said_of_read;
+use said::told_of;
 use writing::Written;
 ghost use mathlib.Core.Path.{_≡_};
 ghost use Rattle.records.specs.Rows.{tables};
 ghost use Rattle.writing.specs.Answers.{viewWritten, measured};
 ghost use Rattle.oddrafisk.specs.Entries.{modeOf};
-ghost use Rattle.oddrafisk.specs.Promises.{CheckPromise, ReadPromise, entriesGiven, MeasurePromise, WritePromise, CanonicalPromise, RecordTimePromise, Crc32cPromise, VersionPromise};
+ghost use Rattle.oddrafisk.specs.Promises.{CheckPromise, ReadPromise, entriesGiven, MeasurePromise, WritePromise, ConvertPromise, CanonicalPromise, RecordTimePromise, Crc32cPromise, VersionPromise};
 ghost use Rattle.oddrafisk.specs.Words.{WritesFor};
 
 // What the bytes begin with, by themselves.
@@ -97,6 +102,16 @@ pub extern "C" fn oddrafisk_write(
     number_of(written)
 }
 
+// Writes what a stored batch is converted to, to the output's start.
+#[no_mangle]
+pub extern "C" fn oddrafisk_convert(bytes: &[u8], output: &mut [u8], answer: &mut [i64; 2]) -> u32
+    ensures { λ r. ⌜ ConvertPromise (now (bytes .entry)) (now (output .entry)) (record { said = record { number = r; answer = now (answer .exit) }; output = now (output .exit) }) ⌝ }
+{
+    let converted = convert(bytes, output);
+    *answer = told_of(converted);
+    conversion_number(converted)
+}
+
 // Whether the bytes, all of them, are one batch as the writer gives it.
 #[no_mangle]
 pub extern "C" fn oddrafisk_is_canonical(mode: u32, bytes: &[u8]) -> u32
@@ -145,7 +160,7 @@ pub extern "C" fn oddrafisk_crc32c(bytes: &[u8]) -> u32
 pub extern "C" fn oddrafisk_version() -> u32
     ensures { λ r. ⌜ VersionPromise r ⌝ }
 {
-    3000
+    4000
 }
 
 fn measure_asked(
@@ -163,7 +178,7 @@ fn measure_asked(
     }
     match batch_asked(batch) {
         BatchAsked::Got { batch, kind } => batch.measure(mode, 0, kind, records, headers, source),
-        BatchAsked::Wrong => Written::Refused(WriteFault::Row),
+        BatchAsked::Wrong => Written::Refused(entries_fault(mode, batch[KIND])),
     }
 }
 
@@ -185,6 +200,6 @@ fn write_asked(
         BatchAsked::Got { batch, kind } => {
             batch.write(mode, 0, kind, records, headers, source, output)
         }
-        BatchAsked::Wrong => Written::Refused(WriteFault::Row),
+        BatchAsked::Wrong => Written::Refused(entries_fault(mode, batch[KIND])),
     }
 }

@@ -3,16 +3,19 @@ use batches::BatchCheck;
 use batches::BatchRead;
 use batches::ControlBatchOrRecords;
 use batches::RecordBatch;
+use converting::Converted;
 use layout::RecordBatchTimestampType;
 use markers::ControlBatchRecord;
 use writing::Written;
 ghost use Prim.Native.Nat.{_≤_};
 ghost use mathlib.Core.Path.{_≡_};
+ghost use mathlib.Core.List.{[], _∷_};
 ghost use lib.IntN.{pos};
 ghost use Rattle.writing.specs.Answers.{viewWritten};
 ghost use Rattle.layout.specs.Fixed.{viewType};
 ghost use Rattle.markers.specs.Markers.{viewMarker};
 ghost use Rattle.batches.specs.Answers.{ofMarker, accepts, viewFields, viewKind, viewCount, viewCheck, viewRead};
+ghost use Rattle.converting.specs.Answers.{viewConverted};
 ghost use Rattle.oddrafisk.specs.Entries.{typeEntry, flagEntry, kindEntry, entriesOf};
 ghost use Rattle.oddrafisk.specs.Promises.{Says};
 ghost use Rattle.oddrafisk.specs.Statements.{Counted};
@@ -192,5 +195,29 @@ pub(crate) fn length_of(written: Written) -> i64
     match written {
         Written::Bytes(n) => n as i64,
         Written::Refused(_) => 0,
+    }
+}
+
+pub(crate) fn conversion_number(converted: Converted) -> u32
+    ensures { λ r. ⌜ r ≡ viewConverted converted .number ⌝ }
+{
+    match converted {
+        Converted::Done { taken: _, given: _ } => 0,
+        Converted::MoreBytes(_) => 1,
+        Converted::Refused(f) => f.number() as u32,
+        Converted::ShortOutput => 24,
+    }
+}
+
+// The bytes taken, or needed, and the bytes given.
+pub(crate) fn told_of(converted: Converted) -> [i64; 2]
+    requires { ⌜ (viewConverted converted .taken ≤ 2147483659) × (viewConverted converted .given ≤ 2147483659) ⌝ }
+    ensures { λ r. ⌜ r ≡ pos (viewConverted converted .taken) ∷ pos (viewConverted converted .given) ∷ [] ⌝ }
+{
+    match converted {
+        Converted::Done { taken, given } => [taken as i64, given as i64],
+        Converted::MoreBytes(n) => [n as i64, 0],
+        Converted::Refused(_) => [0, 0],
+        Converted::ShortOutput => [0, 0],
     }
 }

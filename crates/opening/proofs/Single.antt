@@ -37,7 +37,8 @@ fault n =
     (pick (eqb n 5) BatchFault.UnknownCodec
     (pick (eqb n 6) BatchFault.Compressed
     (pick (eqb n 7) BatchFault.WrongCount
-    (pick (eqb n 12) BatchFault.UnknownControl (BatchFault.Body (recordFault n))))))))
+    (pick (eqb n 12) BatchFault.UnknownControl
+    (pick (eqb n 41) BatchFault.BareMarker (BatchFault.Body (recordFault n)))))))))
 
 -- the refusal with that number, or what is answered by 1 or by 14
 abbrev pub refusal : {R : Type 0} → R → R → (BatchFault → R) → ℕ → R
@@ -52,6 +53,7 @@ refusal-again lacking short by BatchFault.UnknownCodec = refl
 refusal-again lacking short by BatchFault.Compressed = refl
 refusal-again lacking short by BatchFault.WrongCount = refl
 refusal-again lacking short by BatchFault.UnknownControl = refl
+refusal-again lacking short by BatchFault.BareMarker = refl
 refusal-again lacking short by (BatchFault.Body (Field PastEnd)) = refl
 refusal-again lacking short by (BatchFault.Body (Field BeyondLimits)) = refl
 refusal-again lacking short by (BatchFault.Body (Field NegativeLength)) = refl

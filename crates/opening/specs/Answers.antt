@@ -7,7 +7,7 @@ use Rattle.opening.specs.declared.Opened.{Opened}
 use Rattle.opening.specs.Judgement.{Judged, more, refused, accepted}
 use Rattle.opening.specs.Opened.{KnownAt}
 
--- document 01, Reader's numbers
+-- document 01, Reader's numbers, and C-24's 41
 abbrev pub batchNumberOf : BatchFault → ℕ
 batchNumberOf BatchFault.LengthTooSmall = 2
 batchNumberOf BatchFault.UnknownMagic = 3
@@ -16,6 +16,7 @@ batchNumberOf BatchFault.UnknownCodec = 5
 batchNumberOf BatchFault.Compressed = 6
 batchNumberOf BatchFault.WrongCount = 7
 batchNumberOf BatchFault.UnknownControl = 12
+batchNumberOf BatchFault.BareMarker = 41
 batchNumberOf (BatchFault.Body f) = recordNumberOf f
 
 abbrev pub viewOpened : Opened → Judged KnownAt

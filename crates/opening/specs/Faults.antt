@@ -15,7 +15,7 @@ use Rattle.records.specs.Format.{Record, RecordBytes}
 use Rattle.records.specs.Faults.{RecordWrong}
 use Rattle.layout.specs.declared.ControlMode.{ControlMode}
 use Rattle.layout.specs.Batch.{Marker}
-use Rattle.layout.specs.Format.{markerType}
+use Rattle.layout.specs.Format.{markerType, MarkerBytes}
 use Rattle.opening.specs.Judgement.{attributesIn}
 
 -- ---- the fixed part, of a batch that starts at a place
@@ -55,7 +55,22 @@ pub data KeyedMarkerWrong (s : List ℕ) (p : ℕ) : ℕ → Type 0 where
   left : {r : Record} {q : ℕ} → Encoding (RecordBytes false) s p q r → q < length s → KeyedMarkerWrong s p 13
   key : {r : Record} → Encoding (RecordBytes false) s p (length s) r → NoMarker (r .key) → KeyedMarkerWrong s p 12
 
--- the marker's first fault, by the mode
+-- ---- by the mode
+
+-- by the old rules
+unfoldable pub formerWrongOf : ControlMode → Wrong
+formerWrongOf ControlMode.Bare = BareMarkerWrong
+formerWrongOf ControlMode.Keyed = KeyedMarkerWrong
+
+-- a marker that stands alone, up to the end of the list
+abbrev pub BareStands : List ℕ → ℕ → Type 0
+BareStands s p = (m : Marker) × Encoding MarkerBytes s p (length s) m
+
+-- C-24, 41: there is one; where there is none, a fault is what it was
+pub data WithdrawnWrong (W : Wrong) (s : List ℕ) (p : ℕ) : ℕ → Type 0 where
+  bare : BareStands s p → WithdrawnWrong W s p 41
+  as-before : {n : ℕ} → (BareStands s p → ⊥) → W s p n → WithdrawnWrong W s p n
+
+-- the marker's first fault
 unfoldable pub wrongOf : ControlMode → Wrong
-wrongOf ControlMode.Bare = BareMarkerWrong
-wrongOf ControlMode.Keyed = KeyedMarkerWrong
+wrongOf mode = WithdrawnWrong (formerWrongOf mode)

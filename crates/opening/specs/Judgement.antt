@@ -1,5 +1,5 @@
--- What document 01, as C-16 has it, answers of a batch that starts at a place of a list, where rows are enough: in its
--- order and with its numbers, the first fault first.
+-- What document 01, as C-16 and C-24 have it, answers of a batch that starts at a place of a list, where rows are
+-- enough: in its order and with its numbers, the first fault first.
 use Prim.Native.Nat.{ℕ, zero, suc, _+_, _-_, _*_, _/_, _%_, _^_}
 use mathlib.Core.Bool.{Bool, true, false}
 use mathlib.Core.Option.{Option, none, some}
@@ -169,8 +169,8 @@ markerOf t p = pick (is 0 t) (ok abort p) (pick (is 1 t) (ok commit p) (no 12))
 abbrev pub endedAt : List ℕ → Marker → ℕ → Step ℕ Marker
 endedAt s m p = pick (ltb p (length s)) (no 13) (ok m p)
 
--- Document 01, Fixed fields: version 0, then the type.
--- Exception, as in the Rust: they stand alone, and not in the key of a record.
+-- Document 01, Fixed fields: version 0, then the type. They stand alone, as in the Rust, and not in the key of a
+-- record.
 unfoldable pub bareMarkerAt : Control
 bareMarkerAt s at =
     andThen (integerAt 2 s at) (λ version p.
@@ -190,9 +190,18 @@ markerInKey s (some k) p = pick (ltb (k .len) 4) (no 12) (andThen (bareMarkerAt 
 unfoldable pub keyedMarkerAt : Control
 keyedMarkerAt s at = andThen (recordAt s at) (λ r p. pick (ltb p (length s)) (no 13) (markerInKey s (r .key) p))
 
+-- C-16's two ways: the old rules
+unfoldable pub formerWayOf : ControlMode → Control
+formerWayOf ControlMode.Bare = bareMarkerAt
+formerWayOf ControlMode.Keyed = keyedMarkerAt
+
+-- C-24: a marker that stands alone is refused by 41, and all else is read as before
+abbrev pub withdrawn : Step ℕ Marker → Step ℕ Marker → Step ℕ Marker
+withdrawn (ok m p) other = no 41
+withdrawn (no n) other = other
+
 unfoldable pub wayOf : ControlMode → Control
-wayOf ControlMode.Bare = bareMarkerAt
-wayOf ControlMode.Keyed = keyedMarkerAt
+wayOf mode s at = withdrawn (bareMarkerAt s at) (formerWayOf mode s at)
 
 abbrev pub judgeAt : ControlMode → List ℕ → ℕ → ℕ → Judgement
 judgeAt mode s at first = judgeWith (wayOf mode) s at first

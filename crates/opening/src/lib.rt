@@ -36,6 +36,8 @@ pub enum BatchFault {
     Compressed,
     WrongCount,
     UnknownControl,
+    // A marker stands alone, in the form that is withdrawn.
+    BareMarker,
     Body(RecordFault),
 }
 
@@ -139,6 +141,7 @@ impl BatchFault {
             BatchFault::Compressed => 6,
             BatchFault::WrongCount => 7,
             BatchFault::UnknownControl => 12,
+            BatchFault::BareMarker => 41,
             BatchFault::Body(f) => f.number(),
         }
     }

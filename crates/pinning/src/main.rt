@@ -245,8 +245,8 @@ fn print(
     let mut output = io::buffer();
     let all = &records[..];
     let from = ROW * first;
-    let bare = ControlMode::Bare;
-    let written = batch.write(bare, 0, kind, &all[from..], headers, &SOURCE, &mut output);
+    let keyed = ControlMode::Keyed;
+    let written = batch.write(keyed, 0, kind, &all[from..], headers, &SOURCE, &mut output);
     match written {
         Written::Bytes(n) => {
             io::write_all(STDOUT_FILENO, &output[..n]);

@@ -11,7 +11,6 @@ use batches::RecordBatch;
 use layout::ControlMode;
 use layout::RecordBatchTimestampType;
 use libc::STDOUT_FILENO;
-use markers::ControlBatchRecord;
 use records::Record;
 use records::RecordHeader;
 use writing::Written;
@@ -22,7 +21,7 @@ ghost use lib.ListN.{length};
 pub fn answer(bytes: &[u8]) {
     let mut records = [0i64; 8192];
     let mut headers = [0i64; 8192];
-    match RecordBatch::read(ControlMode::Bare, bytes, &mut records, &mut headers) {
+    match RecordBatch::read(ControlMode::Keyed, bytes, &mut records, &mut headers) {
         BatchRead::Accepted {
             batch,
             kind,
@@ -48,7 +47,7 @@ fn print_accepted(
     print_fields(batch, consumed);
     print_content(kind, bytes, records, headers);
     print_written(batch, kind, bytes, records, headers);
-    if RecordBatch::is_canonical(ControlMode::Bare, bytes) {
+    if RecordBatch::is_canonical(ControlMode::Keyed, bytes) {
         print(b"canonical yes\n");
         return;
     }
@@ -78,12 +77,10 @@ fn print_type(t: RecordBatchTimestampType) {
     }
 }
 
+// No stored answer has a marker: the Rust has none in the key of a record, and those alone are withdrawn.
 fn print_content(kind: ControlBatchOrRecords, source: &[u8], records: &[i64], headers: &[i64]) {
     match kind {
-        ControlBatchOrRecords::ControlBatch(marker) => match marker {
-            ControlBatchRecord::Abort => print(b" abort\n"),
-            ControlBatchRecord::Commit => print(b" commit\n"),
-        },
+        ControlBatchOrRecords::ControlBatch(_) => print(b" marker\n"),
         ControlBatchOrRecords::Records(count) => {
             print(b" records\n");
             print_records(source, records, headers, count);
@@ -142,8 +139,8 @@ fn print_written(
     headers: &[i64],
 ) {
     let mut output = io::large_buffer();
-    let bare = ControlMode::Bare;
-    match batch.write(bare, 0, kind, records, headers, source, &mut output) {
+    let keyed = ControlMode::Keyed;
+    match batch.write(keyed, 0, kind, records, headers, source, &mut output) {
         Written::Bytes(n) => {
             print(b"written ");
             print_hexadecimal(&output[..n]);

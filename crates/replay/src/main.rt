@@ -1,7 +1,7 @@
-// Replays stored answers of the Rust. It reads the cases that the Rust was given, answers each by the library, and
-// prints the answers, which have to be the Rust's: compare/store makes the file stdin of cases and, from the Rust
-// alone, the file stdout. Cases stand one after the other, each after its length in four bytes; they have at most
-// 65,536 bytes in all.
+// Replays stored answers of the Rust. It reads the cases that the Rust was given, answers each by the library in keyed
+// mode, and prints the answers, which have to be the Rust's: compare/store makes the file stdin of cases, none of them
+// a control batch that the Rust or this mode accepts, and, from the Rust alone, the file stdout. Cases stand one after
+// the other, each after its length in four bytes; they have at most 65,536 bytes in all.
 mod answers;
 mod text;
 

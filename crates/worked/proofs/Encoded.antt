@@ -17,13 +17,13 @@ use Rattle.primitives.specs.Stands.{Encoding}
 use Rattle.examples.specs.Examples.{Example}
 use Rattle.records.specs.Format.{Record}
 use Rattle.records.specs.Statements.{Each}
-use Rattle.layout.specs.declared.ControlMode.{ControlMode}
 use Rattle.layout.specs.Batch.{Batch}
-use Rattle.layout.specs.Format.{BatchBytes}
+use Rattle.layout.specs.Format.{Grammar, BatchBytesWith}
 use Rattle.layout.specs.Worked.{exampleBatch}
-use Rattle.opening.specs.Judgement.{more, refused, accepted, Judgement, judge}
+use Rattle.opening.specs.Judgement.{more, refused, accepted, Judgement, Control, judgeWith}
+use Rattle.markers.specs.Forms.{Reads}
 use Rattle.batches.specs.Placed.{shownBatch}
-use Rattle.batches.proofs.Sound.{sound}
+use Rattle.batches.proofs.Sound.{sound-with}
 use Rattle.worked.specs.Worked.{EncodedAs}
 
 -- ---- whether all are bytes
@@ -62,29 +62,30 @@ toldOf s (accepted b) = told (shownBatch s b) (b .consumed) (allBytes s)
 untold-not : {x : Batch Record} {n : ℕ} {t : Bool} → untold ≡ told x n t → ⊥
 untold-not g = let z : _≡_ {A = ℕ} 0 1 = cc in omega arith
 
-told-encodes : (mode : ControlMode) (s : List ℕ) (x : Batch Record) (j : Judgement) → judge mode s ≡ j
-    → toldOf s j ≡ told x (length s) true → BatchBytes mode false s x
-told-encodes mode s x (more n) e f = absurd (untold-not f)
-told-encodes mode s x (refused n) e f = absurd (untold-not f)
-told-encodes mode s x (accepted b) e f =
+told-encodes : {grammar : Grammar} {way : Control} → Reads grammar way → (s : List ℕ) (x : Batch Record) (j : Judgement)
+    → judgeWith way s 0 0 ≡ j → toldOf s j ≡ told x (length s) true → BatchBytesWith grammar false s x
+told-encodes reads s x (more n) e f = absurd (untold-not f)
+told-encodes reads s x (refused n) e f = absurd (untold-not f)
+told-encodes {grammar} {way} reads s x (accepted b) e f =
     let shows : shownBatch s b ≡ x = cc in
     let ends : b .consumed ≡ length s = cc in
     let bytes : allBytes s ≡ true = cc in
-    let there = sound mode s 0 0 b (all-bytes s bytes) e .0 in
-    rw (← shows) (whole (BatchBytes mode false) s (0 + b .consumed) (shownBatch s b) (zero-add (b .consumed) ∙ ends) there)
+    let there = sound-with grammar way reads s 0 0 b (all-bytes s bytes) e .0 in
+    rw (← shows) (whole (BatchBytesWith grammar false) s (0 + b .consumed) (shownBatch s b) (zero-add (b .consumed) ∙ ends) there)
 
 -- ---- each of some batches
 
-abbrev pub toldIn : ControlMode → Example → Told
-toldIn mode e = toldOf (e .bytes) (judge mode (e .bytes))
+abbrev pub toldIn : Control → Example → Told
+toldIn way e = toldOf (e .bytes) (judgeWith way (e .bytes) 0 0)
 
 abbrev pub toldDue : Example → Told
 toldDue e = told (exampleBatch e) (length (e .bytes)) true
 
-pub each-encodes : (mode : ControlMode) (es : List Example) → map (toldIn mode) es ≡ map toldDue es → EncodedAs mode es
+pub each-encodes : {grammar : Grammar} {way : Control} → Reads grammar way → (es : List Example) → map (toldIn way) es ≡ map toldDue es
+    → EncodedAs grammar es
 unfolding Each
-each-encodes mode [] h = tt
-each-encodes mode (e ∷ rest) h =
-    let first : toldIn mode e ≡ toldDue e = cc in
-    let others : map (toldIn mode) rest ≡ map toldDue rest = cc in
-    (told-encodes mode (e .bytes) (exampleBatch e) (judge mode (e .bytes)) refl first, each-encodes mode rest others)
+each-encodes reads [] h = tt
+each-encodes {way = way} reads (e ∷ rest) h =
+    let first : toldIn way e ≡ toldDue e = cc in
+    let others : map (toldIn way) rest ≡ map toldDue rest = cc in
+    (told-encodes reads (e .bytes) (exampleBatch e) (judgeWith way (e .bytes) 0 0) refl first, each-encodes reads rest others)

@@ -53,6 +53,7 @@ fault-numbered WriteFault.Row = omega arith
 fault-numbered WriteFault.KeyNotUtf8 = omega arith
 fault-numbered WriteFault.TooLong = omega arith
 fault-numbered WriteFault.ShortOutput = omega arith
+fault-numbered WriteFault.BareMarker = omega arith
 
 -- no length and no refusal say the same
 pub apart : {X : Type 0} (f : WriteFault) {n : ℕ} → refuses (writeNumberOf f) ≡ writes n → X

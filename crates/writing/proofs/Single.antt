@@ -26,6 +26,7 @@ answer-again (Written.Refused WriteFault.Row) = refl
 answer-again (Written.Refused WriteFault.KeyNotUtf8) = refl
 answer-again (Written.Refused WriteFault.TooLong) = refl
 answer-again (Written.Refused WriteFault.ShortOutput) = refl
+answer-again (Written.Refused WriteFault.BareMarker) = refl
 
 -- answers that say the same are the same
 pub single-written : (a : Answer) → Single (λ r. viewWritten r ≡ a)

@@ -25,15 +25,15 @@ pub fn one_record() -> Vec<u8> {
     batch_with_body(0, 1, &[0x0E, 0, 0, 0, 1, 2, 0x41, 0])
 }
 
-/// A control batch of this type, in the bare form.
+/// A control batch of this type, as it is written: 0 is an abort, 1 a commit.
 pub fn marker(control_type: u8) -> Vec<u8> {
-    batch_with_body(0x20, 1, &[0, 0, 0, control_type])
+    batch_with_body(0x20, 1, &[0x14, 0, 0, 0, 8, 0, 0, 0, control_type, 1, 0])
 }
 
-/// The same in the keyed form.
+/// The same in the bare form, which is withdrawn.
 #[allow(dead_code)]
-pub fn keyed_marker(control_type: u8) -> Vec<u8> {
-    batch_with_body(0x20, 1, &[0x14, 0, 0, 0, 8, 0, 0, 0, control_type, 1, 0])
+pub fn bare_marker(control_type: u8) -> Vec<u8> {
+    batch_with_body(0x20, 1, &[0, 0, 0, control_type])
 }
 
 /// Every field 0, as these batches have it.

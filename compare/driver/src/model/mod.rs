@@ -1,14 +1,15 @@
-//! A model of document 01, and of C-16 in document 02, written from their texts and sharing nothing
-//! with the library: every number, place and rule stands here once more. It is slow and plain on
-//! purpose.
+//! A model of document 01, and of C-16 and C-24 in document 02, written from their texts and sharing
+//! nothing with the library: every number, place and rule stands here once more. It is slow and plain
+//! on purpose.
 
+pub mod converting;
 pub mod reading;
 pub mod writing;
 
 /// Which form the marker of a control batch has.
 #[derive(Clone, Copy, Debug, PartialEq)]
 pub enum Mode {
-    /// Document 01's: version and type alone.
+    /// Document 01's: version and type alone. C-24 withdraws it: such a marker is refused.
     Bare,
     /// Document 02's, C-16: one record, whose key begins with version and type.
     Keyed,
@@ -47,6 +48,26 @@ pub const WRONG_ROW: u32 = 21;
 pub const ASKED_NOT_UTF8: u32 = 22;
 pub const TOO_LONG: u32 = 23;
 pub const SHORT_OUTPUT: u32 = 24;
+/// C-24's, in reading and in writing.
+pub const BARE_MARKER: u32 = 41;
+
+/// The refusals that stand whatever follows. C-24: 41 is "counted among 2 to 13 wherever these are
+/// named".
+pub const STANDING: [u32; 13] = [
+    SMALL_LENGTH,
+    UNKNOWN_MAGIC,
+    CHECKSUM_DIFFERS,
+    UNKNOWN_CODEC,
+    COMPRESSED,
+    WRONG_COUNT,
+    PAST_END,
+    BEYOND_LIMITS,
+    NEGATIVE_LENGTH,
+    KEY_NOT_UTF8,
+    UNKNOWN_CONTROL,
+    BYTES_LEFT,
+    BARE_MARKER,
+];
 
 /// CRC-32C: the remainder by Castagnoli's polynomial, lowest bit first, of RFC 3720.
 pub fn crc32c(bytes: &[u8]) -> u32 {

@@ -1,5 +1,6 @@
-//! Reading by document 01, and in keyed mode by C-16: of every byte string the number with its
-//! values, every row, and whether it lies in the domain on which the Rust is compared.
+//! Reading by document 01, in keyed mode by C-16, and of bare markers by C-24: of every byte string
+//! the number with its values, every row, and whether it lies in the domain on which the Rust is
+//! compared.
 
 use super::*;
 
@@ -35,8 +36,25 @@ impl Reading {
     }
 }
 
-/// Reads the batch that the bytes begin with.
+/// Reads the batch that the bytes begin with. "41, in reading, in either mode, where a bare marker
+/// would have been accepted."
 pub fn read(mode: Mode, bytes: &[u8]) -> Reading {
+    if bare_marker(bytes).is_some() {
+        return Reading { number: BARE_MARKER, ..Reading::default() };
+    }
+    by_earlier_rules(mode, bytes)
+}
+
+/// The control batch that the bytes begin with, where document 01 accepts one. Others are not read
+/// twice: the control bit is looked at first.
+pub fn bare_marker(bytes: &[u8]) -> Option<Reading> {
+    let control_bit = bytes.get(22).is_some_and(|low| low & 32 != 0);
+    let read = control_bit.then(|| by_earlier_rules(Mode::Bare, bytes))?;
+    (read.number == ACCEPTED && read.entries[KIND] != 0).then_some(read)
+}
+
+/// Reads by the rules of before C-24, which 41 and the conversion are defined by.
+fn by_earlier_rules(mode: Mode, bytes: &[u8]) -> Reading {
     match framed(bytes) {
         Err((number, needed)) => {
             let mut entries = [0; 16];
@@ -369,13 +387,13 @@ mod tests {
         const ABORT: (u32, i64) = (0, 1);
         const COMMIT: (u32, i64) = (0, 2);
         const UNKNOWN: (u32, i64) = (12, 0);
+        const WITHDRAWN: (u32, i64) = (41, 0);
         let keyed = |key: [u8; 4]| [&[0x14, 0, 0, 0, 8][..], &key, &[1, 0]].concat();
         assert_eq!(both(&keyed([0, 0, 0, 0])), [UNKNOWN, ABORT]);
         assert_eq!(both(&keyed([0, 0, 0, 1])), [UNKNOWN, COMMIT]);
         assert_eq!([both(&keyed([0, 1, 0, 1])), both(&keyed([0, 0, 0, 2]))], [[UNKNOWN; 2]; 2]);
         assert_eq!([both(&keyed([1, 0, 0, 0])), both(&keyed([0, 0, 1, 0]))], [[UNKNOWN; 2]; 2]);
-        assert_eq!(both(&[0, 0, 0, 0]), [ABORT, (8, 0)]);
-        assert_eq!(both(&[0, 0, 0, 1]), [COMMIT, (8, 0)]);
+        assert_eq!([both(&[0, 0, 0, 0]), both(&[0, 0, 0, 1])], [[WITHDRAWN; 2]; 2]);
         let null = [0x0C, 0, 0, 0, 1, 1, 0];
         assert_eq!(both(&null), [UNKNOWN; 2]);
         assert_eq!(both(&[&null[..], &[0]].concat()), [UNKNOWN, (13, 0)]);
@@ -384,6 +402,28 @@ mod tests {
         let six = [&[0x20, 0, 0, 0, 8, 0, 0, 0, 1, 12][..], &[0; 7]].concat();
         assert_eq!(both(&six), [UNKNOWN, COMMIT]);
         assert_eq!(both(&[0x14, 0, 0, 0, 1, 1, 2, 2, 0xFF, 0, 0]), [UNKNOWN, (11, 0)]);
+    }
+
+    /// C-24: only where the four bytes alone would have been accepted, and everything before them.
+    #[test]
+    fn other_control_batches_keep_their_numbers() {
+        assert_eq!(both(&[0, 1, 0, 0]), [(12, 0), (8, 0)]);
+        assert_eq!(both(&[0, 0, 0, 2]), [(12, 0), (8, 0)]);
+        assert_eq!(both(&[0, 0, 0]), [(8, 0); 2]);
+        assert_eq!(both(&[0, 0, 0, 1, 0]), [(13, 0), (8, 0)]);
+        let both_of = |bytes: &[u8]| [Mode::Bare, Mode::Keyed].map(|mode| read(mode, bytes).number);
+        let mut marker = batch(32, 1, &[0, 0, 0, 1]);
+        assert_eq!((marker.len(), both_of(&marker)), (65, [41; 2]));
+        assert_eq!(both_of(&[&marker[..], &[7]].concat()), [41; 2]);
+        assert_eq!(both_of(&marker[..64]), [1; 2]);
+        assert!(!read(Mode::Bare, &marker).canonical && !read(Mode::Keyed, &marker).canonical);
+        marker[20] ^= 1;
+        assert_eq!(both_of(&marker), [4; 2]);
+        assert_eq!(both_of(&batch(32, 2, &[0, 0, 0, 1])), [7; 2]);
+        assert_eq!(both_of(&batch(33, 1, &[0, 0, 0, 1])), [6; 2]);
+        assert_eq!(both_of(&batch(37, 1, &[0, 0, 0, 1])), [5; 2]);
+        assert_eq!(both_of(&batch(0xFFE0, 1, &[0, 0, 0, 1])), [41; 2]);
+        assert_eq!(both_of(&batch(0, 1, &[0, 0, 0, 1])), [8; 2]);
     }
 
     /// C-16: the counts answered, what else is told of a marker, and which form is canonical.

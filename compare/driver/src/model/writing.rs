@@ -1,5 +1,6 @@
-//! Writing by document 01, and in keyed mode by C-16: of every request its number, 20 to 24, or the
-//! length of the batch, and all bytes of a keyed control batch. Rows may hold any numbers.
+//! Writing by document 01, in keyed mode by C-16, and of bare markers by C-24: of every request its
+//! number, 20 to 24 or 41, or the length of the batch, and all bytes of a keyed control batch. Rows
+//! may hold any numbers.
 
 use super::*;
 
@@ -14,16 +15,24 @@ pub struct Asked<'a> {
     pub source: &'a [u8],
 }
 
+/// Whether these entries ask for a marker.
+pub fn is_marker(batch: &Entries) -> bool {
+    [1, 2].contains(&batch[KIND])
+}
+
 /// How long the batch is, or by which number it is refused before an output is looked at.
 pub fn measure(asked: &Asked) -> Result<i64, u32> {
     if asked.codec != 0 {
         return Err(CODEC_ASKED);
     }
+    // "In writing, after 20, where one is asked for."
+    if asked.mode == Mode::Bare && is_marker(asked.batch) {
+        return Err(BARE_MARKER);
+    }
     entries_fit(asked.batch).then_some(()).ok_or(WRONG_ROW)?;
-    let content = match (asked.batch[KIND], asked.mode) {
-        (0, _) => records_size(asked)?,
-        (_, Mode::Bare) => 4,
-        (_, Mode::Keyed) => KEYED_MARKER.len() as i64,
+    let content = match asked.batch[KIND] {
+        0 => records_size(asked)?,
+        _ => KEYED_MARKER.len() as i64,
     };
     let batch_length = 49 + content;
     if batch_length > 2_147_483_647 {
@@ -171,7 +180,7 @@ mod tests {
     #[test]
     fn numbers_are_given_in_their_order() {
         assert_eq!(asked(0, 0, 1, &A, &[]), (0, 69));
-        assert_eq!([asked(0, 0, 0, &[], &[]), asked(0, 1, -1, &[], &[])], [(0, 61), (0, 65)]);
+        assert_eq!(asked(0, 0, 0, &[], &[]), (0, 61));
         assert_eq!([asked(1, 3, 1, &A, &[]), asked(0, 3, 1, &A, &[])], [(20, 0), (21, 0)]);
         assert_eq!([asked(0, 0, 2, &A, &[]), asked(0, 0, -1, &A, &[])], [(21, 0); 2]);
         let with_header = [0, 0, 0, -1, 0, 1, 0, 1];
@@ -179,6 +188,21 @@ mod tests {
         assert_eq!(asked(0, 0, 1, &with_header, &[1, 1, 0, 2]), (22, 0));
         assert_eq!(asked(0, 0, 1, &with_header, &[0, 1, 0, 2]), (0, 74));
         assert_eq!(asked(0, 0, 1, &[i64::MAX, 0, 0, -1, 0, 1, 0, 0], &[]), (24, 0));
+    }
+
+    /// C-24: in bare mode no marker is written, which is told after the codec and before all else.
+    #[test]
+    fn a_bare_marker_is_not_written() {
+        assert_eq!([asked(0, 1, -1, &[], &[]), asked(0, 2, 0, &[], &[])], [(41, 0); 2]);
+        assert_eq!([asked(1, 1, 0, &[], &[]), asked(0, 3, 0, &[], &[])], [(20, 0), (21, 0)]);
+        let mut batch = [0; 16];
+        [batch[KIND], batch[6], batch[15]] = [2, 1 << 15, 7];
+        let both = [Mode::Bare, Mode::Keyed].map(|mode| {
+            let asked =
+                Asked { mode, batch: &batch, codec: 0, records: &[], headers: &[], source: &[] };
+            measure(&asked)
+        });
+        assert_eq!(both, [Err(41), Err(21)]);
     }
 
     /// C-16: a keyed control batch has 72 bytes, and all else is measured as in bare mode.

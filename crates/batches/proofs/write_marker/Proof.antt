@@ -1,11 +1,8 @@
 -- `batches::write_marker` meets its contract. Assumes nothing.
-use Rattle.batches.proofs.Giving.{marker-short, marker-written, marked-least, marked-most}
+use Rattle.batches.proofs.Giving.{marker-short, marker-written}
 use borrow.Author.Needs.{needs}
 use Rattle.batches.proofs.write_marker.Statement.{statement}
 use Rattle.batches.proofs.write_marker.Tie as tie
-
-marked-requires : tie.Need-marked-requires
-marked-requires c κs = search needs
 
 returns : tie.Need-returns
 returns c = search (marker-short, needs)
@@ -14,7 +11,7 @@ put-requires : tie.Need-put-requires
 put-requires c κs = search needs
 
 finish-requires : tie.Need-finish-requires
-finish-requires c κs = (search (marked-least, needs), search (marked-most, needs), search needs)
+finish-requires c κs = search needs
 
 same-length : tie.Need-same-length
 same-length c = search needs
@@ -23,5 +20,4 @@ returns-2 : tie.Need-returns-2
 returns-2 c = search (marker-written, needs)
 
 pub write-marker-spec : {M : Type 1} → statement M
-write-marker-spec =
-    tie.close (tie.spec marked-requires returns put-requires finish-requires same-length returns-2)
+write-marker-spec = tie.close (tie.spec returns put-requires finish-requires same-length returns-2)

@@ -22,14 +22,14 @@ sizes : (c : tie.After-known-told) → (c .before .size .given .0 .0 ≤ mostByt
 sizes c =
     let written = c .before .before .before .before .before .write-records in
     let given = c .before .before .before .before .before .before .before .before .before .args in
-    let w = rows-sizes (given .mode) (viewBatchFields (given .fields)) _ _ _ _ _ _ (written .ensures) _ (c .before .size .given .1) in
+    let w = rows-sizes (viewBatchFields (given .fields)) _ _ _ _ _ _ (written .ensures) _ (c .before .size .given .1) in
     (w .short, w .room, w .many)
 
 add-end : tie.Need-add-end
 add-end c = record { fits = omega (arith, sizes c .0) }
 
-cast-t16 : tie.Need-cast-t16
-cast-t16 c = record { sfits = sizes c .2 }
+cast-t15 : tie.Need-cast-t15
+cast-t15 c = record { sfits = sizes c .2 }
 
 finish-requires : tie.Need-finish-requires
 finish-requires c κs = let w = sizes (c .before) in (omega arith, omega (arith, w .0), w .1)
@@ -56,7 +56,7 @@ write-rows-spec =
     write-records-requires
     enum-known-size
     add-end
-    cast-t16
+    cast-t15
     finish-requires
     enum-known-f
     same-length

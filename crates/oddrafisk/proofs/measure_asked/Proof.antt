@@ -19,13 +19,18 @@ measure-requires c κs = search needs
 enum-told : tie.Need-enum-told
 enum-told c = search needs
 
+element-copy-out-entries-fault : tie.Need-element-copy-out-entries-fault
+element-copy-out-entries-fault c = search needs
+
+entries-fault-requires : tie.Need-entries-fault-requires
+entries-fault-requires c κs = search needs
+
 returns-2 : tie.Need-returns-2
 returns-2 c = let start = c .before .before .before .before .before .before .before in
-    measure-got _ _ _ (start .fits .codec) _ _ (c .before .before .before .before .before .if1 .left) _ (c .before .before .before .before .batch-asked .ensures) _ _ (c .before .before .batch .given .1) (c .measure .result) (c .measure .ensures)
+    measure-got (start .args .mode) _ _ (start .fits .codec) _ _ (c .before .before .before .before .before .if1 .left) _ (c .before .before .before .before .batch-asked .ensures) _ _ (c .before .before .batch .given .1) (c .measure .result) (c .measure .ensures)
 
 returns-3 : tie.Need-returns-3
-returns-3 c = let start = c .before .before .before .before .before in
-    measure-wrong _ _ _ (start .fits .codec) _ _ (c .before .before .before .if1 .left) _ (c .before .before .batch-asked .ensures) (c .enum-told .given .1)
+returns-3 c = search (measure-wrong, needs)
 
 pub measure-asked-spec : {M : Type 1} → statement M
 measure-asked-spec =
@@ -36,5 +41,7 @@ measure-asked-spec =
     enum-known-batch
     measure-requires
     enum-told
+    element-copy-out-entries-fault
+    entries-fault-requires
     returns-2
     returns-3)

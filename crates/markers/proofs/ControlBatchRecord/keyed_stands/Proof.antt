@@ -10,8 +10,8 @@ read-keyed-requires c κs = search needs
 enum-known-marker : tie.Need-enum-known-marker
 enum-known-marker c = search needs
 
-record-bytes-requires : tie.Need-record-bytes-requires
-record-bytes-requires c κs = search needs
+bytes-requires : tie.Need-bytes-requires
+bytes-requires c κs = search needs
 
 slice-aggregate-stand : tie.Need-slice-aggregate-stand
 slice-aggregate-stand c = search needs
@@ -34,7 +34,7 @@ keyed-stands-spec =
     (tie.spec
     read-keyed-requires
     enum-known-marker
-    record-bytes-requires
+    bytes-requires
     slice-aggregate-stand
     stand-requires
     enum-told

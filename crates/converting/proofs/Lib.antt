@@ -1,0 +1,10 @@
+pub mod Cases
+pub mod Copying
+pub mod Given
+pub mod Giving
+pub mod Kept
+pub mod Numbers
+pub mod Rekeyed
+pub mod Single
+pub mod Stands
+pub mod Within
