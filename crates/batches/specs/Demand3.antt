@@ -126,8 +126,7 @@ abbrev pub NoRoomStandsWith : Type 0
 NoRoomStandsWith = (way : Control) (at first : ℕ) → NoRoomStandsBy (readingWith way at first)
 
 -- Document 01: "Numbers 2 to 13 never depend on room. Every refusal changes no table"; 41 is counted among them (C-24).
--- An answer other than 0 and 14 is the same
--- for every pair of tables, smaller ones too, and leaves them as they are.
+-- An answer other than 0 and 14 is the same for every pair of tables, smaller ones too, and leaves them as they are.
 abbrev RoomFreeBy : Reading → Type 0
 RoomFreeBy Reads =
     (s : List ℕ) (t t′ : Tables) (o o′ : ReadOutcome) → Reads s t o → Reads s t′ o′

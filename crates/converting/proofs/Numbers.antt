@@ -1,16 +1,22 @@
 -- The numbers of the conversion are keyed mode's, but for 41: there alone the old rules accept a marker, and it is
 -- converted. Assumes nothing.
-use Prim.Native.Nat.{ℕ}
-use mathlib.Core.Path.{_≡_, refl, sym, ap, _∙_}
+use Prim.Native.Nat.{ℕ, _≤_}
+use mathlib.Core.Path.{_≡_, refl, sym, ap, _∙_, subst}
 use mathlib.Core.Logic.{inl, inr}
 use mathlib.Core.List.{List}
+use native.Mathlib.Omega.{arith}
+use native.Mathlib.Decide.{decLe}
+use borrow.Author.Tests.{le-leb, lt-leb}
+use lib.ListN.{length}
 use Rattle.numbers.specs.Exactly.{Exactly}
 use Rattle.layout.specs.declared.ControlMode.{ControlMode}
-use Rattle.opening.specs.Judgement.{Judgement, more, refused, accepted, Accepted, wayOf, judge}
-use Rattle.opening.proofs.Verdicts.{more-not-accepted, more-not-refused, refused-not-accepted}
+use Rattle.opening.specs.Judgement.{Judged, Judgement, more, refused, accepted, Accepted, wayOf, judge}
+use Rattle.opening.proofs.Verdicts.{more-not-accepted, more-not-refused, refused-not-accepted, same-accepted}
+use Rattle.batches.specs.Answers.{Standing}
 use Rattle.batches.proofs.Numbers.{refusals, ways-within}
 use Rattle.converting.specs.Conversion.{Conversion, copied, conversionOf}
-use Rattle.converting.specs.Statements.{NumbersOf, ConvertedNumbers}
+use Rattle.converting.specs.Answers.{Answer, answerOf}
+use Rattle.converting.specs.Statements.{NumbersOf, ConvertedNumbers, ConvertNumbersOf, ConvertNumbers}
 use Rattle.converting.proofs.Cases.{either}
 
 module _ (s : List ℕ) where
@@ -77,3 +83,61 @@ converted-numbers s =
       | inl (_, e, f) ↦ rekeyed-numbers s _ e f
       | inr (e, h) ↦ copied-numbers s e h
     ]
+
+-- ---- of the function
+
+-- what stands is none of the other numbers
+standing-apart : {n : ℕ} → Standing n → (2 ≤ n) × (n ≡ 24 → ⊥)
+standing-apart (inl (l, h)) = (l, λ e. omega arith)
+standing-apart (inr e) = (omega arith, λ f. omega arith)
+
+module _ (s out : List ℕ) (n : ℕ) where
+  numbers-by : (j : Judged Conversion) → conversionOf s ≡ j → n ≡ answerOf j (length out) .number → ConvertNumbersOf s out n
+  numbers-by (more k) e f =
+      record {
+        done = (λ g. absurd (omega arith), λ (c, g, _). more-not-accepted (sym e ∙ g));
+        one = (λ _. (k, e), λ _. f);
+        standing = (λ g. absurd (omega (arith, standing-apart g .0)), λ g. more-not-refused (sym e ∙ g));
+        twenty-four = (λ g. absurd (omega arith), λ (c, g, _). more-not-accepted (sym e ∙ g));
+        no-other = inr (inl f);
+      }
+  numbers-by (refused k) e f =
+      let (stands, other) = converted-numbers s .standing k e in
+      let (least, room) = standing-apart stands in
+      record {
+        done = (λ g. absurd (omega arith), λ (c, g, _). refused-not-accepted (sym e ∙ g));
+        one = (λ g. absurd (omega arith), λ (_, g). more-not-refused (sym g ∙ e));
+        standing = (λ _. e ∙ ap refused (sym f), λ _. subst Standing (sym f) stands);
+        twenty-four = (λ g. absurd (room (sym f ∙ g)), λ (c, g, _). refused-not-accepted (sym e ∙ g));
+        no-other = inr (inr (inr (subst Standing (sym f) stands, λ g. other (sym f ∙ g))));
+      }
+  numbers-by (accepted c) e f =
+      elim (decLe (length (c .given)) (length out)) [
+        | yes h ↦
+            let zero : n ≡ 0 = f ∙ rw (le-leb (length (c .given)) (length out) h) refl in
+            record {
+              done = (λ _. (c, e, h), λ _. zero);
+              one = (λ g. absurd (omega arith), λ (_, g). more-not-accepted (sym g ∙ e));
+              standing = (λ g. absurd (omega (arith, standing-apart g .0)), λ g. refused-not-accepted (sym g ∙ e));
+              twenty-four = (
+                λ g. absurd (omega arith),
+                λ (d, g, l). let same = ap (λ (c : Conversion). length (c .given)) (same-accepted (sym e ∙ g)) in absurd (omega arith),
+              );
+              no-other = inl zero;
+            }
+        | Dec.no h ↦
+            let short : n ≡ 24 = f ∙ rw (lt-leb (length (c .given)) (length out) (omega arith)) refl in
+            record {
+              done = (
+                λ g. absurd (omega arith),
+                λ (d, g, l). let same = ap (λ (c : Conversion). length (c .given)) (same-accepted (sym e ∙ g)) in absurd (omega arith),
+              );
+              one = (λ g. absurd (omega arith), λ (_, g). more-not-accepted (sym g ∙ e));
+              standing = (λ g. absurd (standing-apart g .1 short), λ g. refused-not-accepted (sym g ∙ e));
+              twenty-four = (λ _. (c, e, omega arith), λ _. short);
+              no-other = inr (inr (inl short));
+            }
+      ]
+
+pub convert-numbers : ConvertNumbers
+convert-numbers s out o p = numbers-by s out _ (conversionOf s) refl (ap (λ (a : Answer). a .number) (p .answer))

@@ -1,6 +1,6 @@
 -- The laws of the conversion, each in words and then as a statement. What proves each stands in proofs/ under the
 -- statement's name in small letters: `converted-reads : ConvertedReads`.
-use Prim.Native.Nat.{ℕ, _+_, _≤_}
+use Prim.Native.Nat.{ℕ, _+_, _<_, _≤_}
 use mathlib.Core.Path.{_≡_}
 use mathlib.Core.Bool.{false}
 use mathlib.Core.Logic.{_⊎_}
@@ -78,8 +78,8 @@ ConvertedSize =
 
 -- ---- numbers
 
--- More bytes are asked for, and refused by 2 to 13, exactly where keyed mode does so; and never by 41, nor by another
--- number. What is accepted is what keyed mode accepts, and what it refuses by 41.
+-- More bytes are asked for, and a batch is refused by 2 to 13, exactly where keyed mode does so; and never is one refused
+-- by 41, nor by another number. What is accepted is what keyed mode accepts, and what it refuses by 41.
 pub record NumbersOf (s : List ℕ) : Type 0 where
   pub wanting : (n : ℕ) → Exactly (conversionOf s ≡ more n) (judge ControlMode.Keyed s ≡ more n)
   pub refusing : (n : ℕ) → Exactly (conversionOf s ≡ refused n) ((judge ControlMode.Keyed s ≡ refused n) × (n ≡ 41 → ⊥))
@@ -91,6 +91,18 @@ abbrev pub ConvertedNumbers : Type 0
 ConvertedNumbers = (s : List ℕ) → NumbersOf s
 
 -- ---- the function
+
+-- Each number is given exactly where the conversion says: 0 and 24 by whether the output has room for what is given.
+pub record ConvertNumbersOf (s out : List ℕ) (n : ℕ) : Type 0 where
+  pub done : Exactly (n ≡ 0) ((c : Conversion) × (conversionOf s ≡ accepted c) × (length (c .given) ≤ length out))
+  pub one : Exactly (n ≡ 1) ((k : ℕ) × (conversionOf s ≡ more k))
+  pub standing : Exactly (Standing n) (conversionOf s ≡ refused n)
+  pub twenty-four : Exactly (n ≡ 24) ((c : Conversion) × (conversionOf s ≡ accepted c) × (length out < length (c .given)))
+  -- no other number is given
+  pub no-other : (n ≡ 0) ⊎ ((n ≡ 1) ⊎ ((n ≡ 24) ⊎ (Standing n × (n ≡ 41 → ⊥))))
+
+abbrev pub ConvertNumbers : Type 0
+ConvertNumbers = (s out : List ℕ) (o : ConvertOutcome) → ConvertPromise s out o → ConvertNumbersOf s out (viewConverted (o .result) .number)
 
 -- Every answer but 1 and 24 is the same for longer bytes and a longer output, and each output begins with the same.
 pub record SameConversion (o o′ : ConvertOutcome) (out out′ : List ℕ) : Type 0 where

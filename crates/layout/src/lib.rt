@@ -22,7 +22,8 @@ pub enum RecordBatchTimestampType {
     LogAppendTime,
 }
 
-// How the marker of a control batch stands: alone, as the Rust has it, or in the key of a record, as brokers write it.
+// Which control batches there are: none, or those whose marker is in the key of a record, as brokers write it. Bare has
+// its name from the form that is withdrawn.
 pub enum ControlMode {
     Bare,
     Keyed,

@@ -1,4 +1,4 @@
-// What numbers ask for: the form of control batches, the entries of a batch to be written, and the time of a record.
+// What numbers ask for: the mode, the entries of a batch to be written, and the time of a record.
 use asking::WriteFault;
 use batches::ControlBatchOrRecords;
 use batches::RecordBatch;
