@@ -2,9 +2,9 @@
 
 use std::borrow::Cow;
 use std::fmt;
-use std::fs::{self, File, OpenOptions};
+use std::fs::{self, File, OpenOptions, Permissions};
 use std::io::{self, BufWriter, ErrorKind, Write};
-use std::os::unix::fs::{fchown, MetadataExt, OpenOptionsExt};
+use std::os::unix::fs::{fchown, MetadataExt, OpenOptionsExt, PermissionsExt};
 use std::path::{Path, PathBuf};
 use std::process;
 
@@ -28,7 +28,8 @@ OUT appears at once, when all of it is written and safe on the disk. Until then 
 `.oddrafisk-..` beside OUT, and where a batch is refused, IN is torn, or something cannot be read or
 written, that is removed and OUT stays as it was. A run that is killed may leave it behind. OUT may
 be IN itself, and what was there is replaced; but it is to be a file, and no folder and no device.
-It may be used by whom IN may, and belongs to the same user where the system allows it.
+It has IN's permissions, and IN's user and group where the system allows it; a group that cannot be
+kept gets no rights.
 
 examples:
   oddrafisk convert old.log new.log
@@ -123,14 +124,19 @@ impl Replacement {
     }
 
     /// Lets those use the file who may use the log. To give it to the log's user is root's right
-    /// alone as a rule, and without it nothing is wrong.
+    /// alone as a rule; the group its members may give. Without the log's group, its rights are
+    /// nobody's here.
     fn share_as(&self, log: &Log) -> io::Result<()> {
         let Some(metadata) = log.metadata()? else {
             return Ok(());
         };
         let file = self.file.get_ref();
-        let _ = fchown(file, Some(metadata.uid()), Some(metadata.gid()));
-        file.set_permissions(metadata.permissions())
+        let mut mode = metadata.mode() & 0o777;
+        if fchown(file, None, Some(metadata.gid())).is_err() {
+            mode &= !0o070;
+        }
+        let _ = fchown(file, Some(metadata.uid()), None);
+        file.set_permissions(Permissions::from_mode(mode))
     }
 
     /// Puts it in its place, once all of it is on the disk. Some folders cannot be synced: then a

@@ -361,19 +361,25 @@ fn mode_of(path: &Path) -> u32 {
     fs::metadata(path).unwrap().permissions().mode() & 0o7777
 }
 
-/// Whatever new files have, and whatever OUT had.
+/// Whatever new files have, and whatever OUT had. That a file runs as its user is not kept.
 #[test]
 fn permissions_are_those_of_in() {
     let [old, _] = log();
-    for mode in [0o640, 0o604, 0o444] {
+    for (special, mode) in [(0, 0o640), (0, 0o604), (0, 0o444), (0o4000, 0o750)] {
         let folder = Folder::new("permissions", &old);
-        fs::set_permissions(folder.input(), Permissions::from_mode(mode)).unwrap();
+        fs::set_permissions(folder.input(), Permissions::from_mode(special | mode)).unwrap();
+        assert_eq!(mode_of(&folder.input()), special | mode);
         for umask in ["077", "000"] {
             let ended = shell(&format!("umask {umask} && exec \"$@\""), &folder);
             assert_eq!((ended.status, mode_of(&folder.output())), (0, mode));
             fs::set_permissions(folder.output(), Permissions::from_mode(0o600)).unwrap();
         }
     }
+}
+
+fn owner_of(path: &Path) -> (u32, u32) {
+    let found = fs::metadata(path).unwrap();
+    (found.uid(), found.gid())
 }
 
 /// Root alone can give a file away: for anybody else IN stays his own, and so is OUT.
@@ -383,10 +389,43 @@ fn user_and_group_are_those_of_in() {
     let folder = Folder::new("user", &old);
     let given = chown(folder.input(), Some(4321), Some(1234));
     assert_eq!(folder.convert().status, 0);
-    let owner = |path| fs::metadata(path).map(|found| (found.uid(), found.gid()));
-    let due = owner(folder.input()).unwrap();
+    let due = owner_of(&folder.input());
     assert_eq!(due == (4321, 1234), given.is_ok());
-    assert_eq!(owner(folder.output()).unwrap(), due);
+    assert_eq!(owner_of(&folder.output()), due);
+}
+
+/// The program as the user 5432 of the group 2345, on a log of the user 4321 and the group 1234. It
+/// is run from the folder, since the way there may be closed to that user. Where the log cannot be
+/// given away it stays one's own, and so does OUT with all its permissions.
+#[test]
+fn group_that_cannot_be_kept_gets_no_rights() {
+    let [old, new] = log();
+    for (groups, due) in [
+        ("--clear-groups", (5432, 2345, 0o604)),
+        ("--groups 1234", (5432, 1234, 0o674)),
+    ] {
+        let folder = Folder::new("group", &old);
+        fs::set_permissions(&folder.path, Permissions::from_mode(0o777)).unwrap();
+        let given = chown(folder.input(), Some(4321), Some(1234));
+        fs::set_permissions(folder.input(), Permissions::from_mode(0o674)).unwrap();
+        let (user, group) = owner_of(&folder.input());
+        let (another, due) = match given {
+            Ok(()) => {
+                let another = format!("setpriv --reuid 5432 --regid 2345 {groups}");
+                (another, due)
+            }
+            Err(_) => (String::new(), (user, group, 0o674)),
+        };
+        let script = "cd \"${3%/*}\" && cp \"$1\" program && exec";
+        let ended = shell(
+            &format!("{script} {another} ./program convert in.log out.log"),
+            &folder,
+        );
+        assert_eq!((ended.status, ended.errors.as_str()), (0, ""));
+        let (user, group) = owner_of(&folder.output());
+        assert_eq!((user, group, mode_of(&folder.output())), due);
+        assert_eq!(fs::read(folder.output()).unwrap(), new);
+    }
 }
 
 #[test]
