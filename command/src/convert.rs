@@ -28,8 +28,9 @@ OUT appears at once, when all of it is written and safe on the disk. Until then 
 `.oddrafisk-..` beside OUT, and where a batch is refused, IN is torn, or something cannot be read or
 written, that is removed and OUT stays as it was. A run that is killed may leave it behind. OUT may
 be IN itself, and what was there is replaced; but it is to be a file, and no folder and no device.
-It has IN's permissions, and IN's user and group where the system allows it; a group that cannot be
-kept gets no rights.
+Nobody may write to IN meanwhile: what is appended during a run may be lost. OUT has IN's
+permissions, and IN's user and group where the system allows it; a group that cannot be kept gets no
+rights.
 
 examples:
   oddrafisk convert old.log new.log

@@ -149,7 +149,12 @@ fn help_says_what_is_kafka_s_and_what_not() {
     }
     let page = run(["convert", "--help"]).output.replace('\n', " ");
     assert!(!page.contains("--control"), "{page}");
-    for part in ["`.oddrafisk-..` beside OUT", "OUT stays as it was"] {
+    for part in [
+        "`.oddrafisk-..` beside OUT",
+        "OUT stays as it was",
+        "Nobody may write to IN meanwhile: what is appended during a run may be lost.",
+        "a group that cannot be kept gets no rights.",
+    ] {
         assert!(page.contains(part), "{page}");
     }
 }
