@@ -192,7 +192,8 @@ fn program_help() -> String {
     format!(
         "Lists, dumps, verifies and converts logs of Kafka's version 2 record batches, \
          uncompressed.\n\n\
-         usage: oddrafisk VERB [OPTION].. FILE..\n\n\
+         usage: oddrafisk VERB [OPTION].. FILE..\n       \
+         oddrafisk convert [OPTION].. IN OUT\n\n\
          verbs:\n{verbs}\n\
          options:\n  -h, --help     show this page, or after a verb its own\n  \
          -V, --version  show the version\n\n\

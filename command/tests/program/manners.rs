@@ -99,6 +99,9 @@ fn complaint_comes_after_the_lines_before_it() {
 #[test]
 fn help_has_usage_examples_and_statuses() {
     let mut pages = vec![run(["--help"]), run(["-h"])];
+    let usage = "\nusage: oddrafisk VERB [OPTION].. FILE..\n       \
+                 oddrafisk convert [OPTION].. IN OUT\n\n";
+    assert!(pages[0].output.contains(usage), "{}", pages[0].output);
     let operands = VERBS.map(|verb| (verb, "FILE.."));
     for (verb, operands) in operands.into_iter().chain([("convert", "IN OUT")]) {
         assert!(pages[0].output.contains(&format!("\n  {verb} ")));
