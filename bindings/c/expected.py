@@ -53,7 +53,7 @@ def main(name):
             break
         attributes, at = struct.unpack_from(">h", log, place + 21)[0], place + 61
         if attributes & 32 and log[at:end] in BARE:
-            stop = "41: bare markers are withdrawn; `oddrafisk convert IN OUT` converts a stored log"
+            stop = "41: bare markers are withdrawn: write keyed ones; `oddrafisk convert IN OUT` converts a stored log"
             break
         for _ in range(0 if attributes & 32 else struct.unpack_from(">i", log, place + 57)[0]):
             at = show_record(log, at, base)

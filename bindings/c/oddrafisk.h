@@ -249,7 +249,8 @@ static inline const char *oddrafisk_words(uint32_t number)
     case ODDRAFISK_UNKNOWN_CONTROL: return "the control marker is unknown";
     case ODDRAFISK_BYTES_LEFT: return "bytes are left over";
     case ODDRAFISK_NO_ROOM: return "a table has too few rows";
-    case ODDRAFISK_BARE_MARKER: return "bare markers are withdrawn; `oddrafisk convert IN OUT` converts a stored log";
+    case ODDRAFISK_BARE_MARKER:
+        return "bare markers are withdrawn: write keyed ones; `oddrafisk convert IN OUT` converts a stored log";
     case ODDRAFISK_CODEC_ASKED: return "a codec is asked for";
     case ODDRAFISK_WRONG_ROW: return "an entry or a row is asked for that no batch has";
     case ODDRAFISK_ASKED_NOT_UTF8: return "the key of a header that is asked for is not UTF-8";

@@ -217,7 +217,7 @@ static void test_words(void)
         {5, "codec is unknown"}, {6, "compressed"}, {7, "count of records"}, {8, "past"}, {9, "varying length"},
         {10, "negative"}, {11, "the key of a header is not UTF-8"}, {12, "control"}, {13, "left"}, {14, "table"},
         {20, "codec is asked for"}, {21, "row"}, {22, "asked for is not UTF-8"}, {23, "longer than 2147483647"},
-        {24, "output"}, {41, "`oddrafisk convert IN OUT`"}};
+        {24, "output"}, {41, "withdrawn: write keyed ones; `oddrafisk convert IN OUT`"}};
     static const uint32_t unknown[] = {15, 16, 17, 18, 19, 25, 40, 42, 256, 1000, UINT32_C(1) << 31, UINT32_MAX};
     for (size_t i = 0; i < COUNT(words); i++) {
         EXPECT(strstr(oddrafisk_words(words[i].number), words[i].has) != NULL);

@@ -222,10 +222,19 @@ fn bare_mode_writes_no_marker() {
             assert_eq!((log, output), (vec![0xAA], [0xAA; 75]));
         }
     }
-    let shown = WriteRefusal::BareMarker.to_string();
-    assert_eq!(shown, Refusal::BareMarker.to_string());
-    assert!(shown.contains("`oddrafisk convert IN OUT`"), "{shown}");
-    assert!(shown.ends_with(" (number 41)"), "{shown}");
+}
+
+/// Who reads has a stored log, and who writes is to write otherwise.
+#[test]
+fn words_of_41_say_what_to_do() {
+    let read = "bare markers are withdrawn; `oddrafisk convert IN OUT` converts a stored log";
+    let write = "markers are not written in the bare mode; write them in the keyed mode";
+    for (shown, words) in [
+        (Refusal::BareMarker.to_string(), read),
+        (WriteRefusal::BareMarker.to_string(), write),
+    ] {
+        assert_eq!(shown, format!("{words} (number 41)"));
+    }
 }
 
 #[test]
