@@ -59,4 +59,6 @@ def main(name):
         sys.exit("%s: %s" % (name, why))
 
 
+if len(sys.argv) != 2:
+    sys.exit("usage: read.py LOG")
 main(sys.argv[1])
