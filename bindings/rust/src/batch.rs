@@ -22,7 +22,7 @@ pub enum TimestampType {
     LogAppendTime = 1,
 }
 
-/// Whether the markers that end transactions are read and written, which is to say in which form.
+/// Whether the markers that end transactions are read and written.
 ///
 /// Whatever takes no mode has the default, which is [`Keyed`](ControlMode::Keyed): the form that
 /// brokers write. Batches of records are the same in both modes. A marker in the form that gave
