@@ -18,7 +18,7 @@ BARS = {('read', '100 small records'): 3, ('read', 'four values of 1 MiB'): 1, (
 
 # What users call, what it is measured by, and how many times as long it may take.
 USERS = {'read a log': ('safe crate', 'C functions', 1.15), 'verify a log': ('program', 'check', 1.5),
-         'convert a log': ('convert', 'check and copy', 1.3)}
+         'convert a log': ('convert', 'check and copy', 1.3), 'convert a file': ('program', 'check and copy', 1.3)}
 
 
 def fields(path):

@@ -27,7 +27,7 @@ agree                                     that the sides give the same, case by 
 time MICROSECONDS ROUNDS                  each operation of each case; a turn lasts MICROSECONDS
 checksum MICROSECONDS ROUNDS              the checksums alone
 growth MICROSECONDS ROUNDS LARGEST        the first side, from 1 KiB to LARGEST bytes
-users ROUNDS PROGRAM FILE                 the safe crate, PROGRAM on FILE, which is written, and the conversion
+users ROUNDS PROGRAM FOLDER               the safe crate, the conversion, and PROGRAM on files that are put into FOLDER
 cells                                     what `repeat` can be told, with the case's name and bytes
 repeat SIDE OPERATION CASE TIMES          one operation of one case by one side, and nothing else";
 
@@ -40,7 +40,7 @@ pub fn run(sides: &[&dyn Side]) {
         ["time", turn, rounds] => time(sides, plan(turn, rounds)),
         ["checksum", turn, rounds] => checksum(sides, plan(turn, rounds)),
         ["growth", turn, rounds, largest] => growth(sides[0], plan(turn, rounds), number(largest)),
-        ["users", rounds, program, file] => users(number(rounds), program, Path::new(file)),
+        ["users", rounds, program, folder] => users(number(rounds), program, Path::new(folder)),
         ["cells"] => cells(sides),
         ["repeat", side, operation, case, times] => {
             again(sides, side, operation, number(case), number(times))
@@ -129,14 +129,18 @@ fn growth(side: &dyn Side, plan: Plan, largest: usize) {
     }
 }
 
-/// One log in two ways, three times, the last time with markers in it. A turn is the whole log, which takes longer than
-/// these milliseconds.
-fn users(rounds: usize, program: &str, file: &Path) {
+/// One log in two ways, four times, the last two times with markers in it. A turn is the whole log, which takes longer
+/// than these milliseconds.
+fn users(rounds: usize, program: &str, folder: &Path) {
     let log = users::pinnings();
     let marked = users::with_markers(&log);
     let plan = Plan { turn: Duration::from_millis(10), rounds };
-    let pairs =
-        [users::reading(&log), users::verifying(&log, program, file), users::converting(&marked)];
+    let pairs = [
+        users::reading(&log),
+        users::verifying(&log, program, folder),
+        users::converting(&marked),
+        users::converting_file(&marked, program, folder),
+    ];
     for Pair { operation, log, runners } in pairs {
         print_times("users", operation, "a million pinnings", log.len(), runners, plan);
     }

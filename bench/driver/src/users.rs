@@ -1,7 +1,7 @@
 //! What users wait for beside the C functions: a log read by the safe crate's iterator, a file verified by the program
-//! `oddrafisk`, and a log converted.
+//! `oddrafisk`, and a log converted, in memory and by the program.
 
-use std::fs;
+use std::fs::{self, File};
 use std::hint::black_box;
 use std::path::Path;
 use std::process::Command;
@@ -64,15 +64,14 @@ pub fn reading(log: &[u8]) -> Pair<'_> {
     Pair { operation: "read a log", log, runners }
 }
 
-/// The log in a file as the program verifies it, and as `check` does in memory.
-pub fn verifying<'a>(log: &'a [u8], program: &'a str, file: &'a Path) -> Pair<'a> {
-    fs::write(file, log).expect("the log can be written");
-    let verify = move || {
-        let said = Command::new(program).arg("verify").arg(file).output().expect("it can be run");
-        assert!(said.status.success(), "the log is all right");
-    };
-    let runners: Vec<(_, Runner)> =
-        vec![("check", repeat(move || check(black_box(log)))), ("program", repeat(verify))];
+/// The log in a file of the folder as the program verifies it, and as `check` does in memory.
+pub fn verifying<'a>(log: &'a [u8], program: &'a str, folder: &Path) -> Pair<'a> {
+    let file = folder.join("pinnings.log");
+    fs::write(&file, log).expect("the log can be written");
+    let runners: Vec<(_, Runner)> = vec![
+        ("check", repeat(move || check(black_box(log)))),
+        ("program", repeat(move || run(program, "verify", &[&file]))),
+    ];
     Pair { operation: "verify a log", log, runners }
 }
 
@@ -128,8 +127,7 @@ fn bare(keyed: &[u8; KEYED_BYTES]) -> [u8; BARE_BYTES] {
     bare
 }
 
-/// The log with markers as the conversion takes it, batch by batch, and as it is checked, the markers being passed
-/// over, and copied.
+/// The log with markers as the conversion takes it, batch by batch, and as it is checked and copied.
 pub fn converting(marked: &Marked) -> Pair<'_> {
     let Marked { bare: log, keyed } = marked;
     let mut converted = vec![0; keyed.len()];
@@ -141,6 +139,29 @@ pub fn converting(marked: &Marked) -> Pair<'_> {
         ("convert", repeat(move || convert(black_box(log), &mut converted))),
     ];
     Pair { operation: "convert a log", log, runners }
+}
+
+/// The log with markers in a file of the folder as the program converts it, and as that file is read, checked and
+/// copied. The copy is synced, as what the program writes is.
+pub fn converting_file<'a>(marked: &'a Marked, program: &'a str, folder: &Path) -> Pair<'a> {
+    let Marked { bare: log, keyed } = marked;
+    let [file, converted, copy] =
+        ["marked.log", "converted.log", "copy.log"].map(|name| folder.join(name));
+    fs::write(&file, log).expect("the log can be written");
+    run(program, "convert", &[&file, &converted]);
+    let given = fs::read(&converted).expect("the converted log can be read");
+    assert!(given == *keyed, "the log becomes what it should");
+    let input = file.clone();
+    let runners: Vec<(_, Runner)> = vec![
+        ("check and copy", repeat(move || check_and_copy_file(&file, &copy))),
+        ("program", repeat(move || run(program, "convert", &[&input, &converted]))),
+    ];
+    Pair { operation: "convert a file", log, runners }
+}
+
+fn run(program: &str, verb: &str, files: &[&Path]) {
+    let said = Command::new(program).arg(verb).args(files).output().expect("it can be run");
+    assert!(said.status.success(), "the log is all right");
 }
 
 /// How many bytes are given.
@@ -159,6 +180,13 @@ fn convert(log: &[u8], output: &mut [u8]) -> usize {
 fn check_and_copy(log: &[u8], output: &mut [u8]) -> usize {
     let batches = check(log);
     black_box(output).copy_from_slice(log);
+    batches
+}
+
+fn check_and_copy_file(file: &Path, copy: &Path) -> usize {
+    let batches = check(&fs::read(file).expect("the log can be read"));
+    fs::copy(file, copy).expect("the log can be copied");
+    File::open(copy).and_then(|copy| copy.sync_all()).expect("the copy can be synced");
     batches
 }
 
@@ -204,7 +232,7 @@ fn span(batch: &[u8], start: i64, length: i64) -> usize {
     }
 }
 
-/// How many batches there are. Bare markers are passed over.
+/// How many batches there are. A bare marker is judged as the others are, and 41 is the answer.
 fn check(log: &[u8]) -> usize {
     let mut answer = [0; ENTRIES];
     let (mut place, mut batches) = (0, 0);
