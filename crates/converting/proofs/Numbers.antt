@@ -86,10 +86,10 @@ converted-numbers s =
 
 -- ---- of the function
 
--- what stands is none of the other numbers
-standing-apart : {n : ℕ} → Standing n → (2 ≤ n) × (n ≡ 24 → ⊥)
-standing-apart (inl (l, h)) = (l, λ e. omega arith)
-standing-apart (inr e) = (omega arith, λ f. omega arith)
+-- what stands is neither 0 nor 1, and not 24
+standing-not-24 : {n : ℕ} → Standing n → (2 ≤ n) × (n ≡ 24 → ⊥)
+standing-not-24 (inl (l, h)) = (l, λ e. omega arith)
+standing-not-24 (inr e) = (omega arith, λ f. omega arith)
 
 module _ (s out : List ℕ) (n : ℕ) where
   numbers-by : (j : Judged Conversion) → conversionOf s ≡ j → n ≡ answerOf j (length out) .number → ConvertNumbersOf s out n
@@ -97,13 +97,13 @@ module _ (s out : List ℕ) (n : ℕ) where
       record {
         done = (λ g. absurd (omega arith), λ (c, g, _). more-not-accepted (sym e ∙ g));
         one = (λ _. (k, e), λ _. f);
-        standing = (λ g. absurd (omega (arith, standing-apart g .0)), λ g. more-not-refused (sym e ∙ g));
+        standing = (λ g. absurd (omega (arith, standing-not-24 g .0)), λ g. more-not-refused (sym e ∙ g));
         twenty-four = (λ g. absurd (omega arith), λ (c, g, _). more-not-accepted (sym e ∙ g));
         no-other = inr (inl f);
       }
   numbers-by (refused k) e f =
       let (stands, other) = converted-numbers s .standing k e in
-      let (least, room) = standing-apart stands in
+      let (least, room) = standing-not-24 stands in
       record {
         done = (λ g. absurd (omega arith), λ (c, g, _). refused-not-accepted (sym e ∙ g));
         one = (λ g. absurd (omega arith), λ (_, g). more-not-refused (sym g ∙ e));
@@ -118,7 +118,7 @@ module _ (s out : List ℕ) (n : ℕ) where
             record {
               done = (λ _. (c, e, h), λ _. zero);
               one = (λ g. absurd (omega arith), λ (_, g). more-not-accepted (sym g ∙ e));
-              standing = (λ g. absurd (omega (arith, standing-apart g .0)), λ g. refused-not-accepted (sym g ∙ e));
+              standing = (λ g. absurd (omega (arith, standing-not-24 g .0)), λ g. refused-not-accepted (sym g ∙ e));
               twenty-four = (
                 λ g. absurd (omega arith),
                 λ (d, g, l). let same = ap (λ (c : Conversion). length (c .given)) (same-accepted (sym e ∙ g)) in absurd (omega arith),
@@ -133,7 +133,7 @@ module _ (s out : List ℕ) (n : ℕ) where
                 λ (d, g, l). let same = ap (λ (c : Conversion). length (c .given)) (same-accepted (sym e ∙ g)) in absurd (omega arith),
               );
               one = (λ g. absurd (omega arith), λ (_, g). more-not-accepted (sym g ∙ e));
-              standing = (λ g. absurd (standing-apart g .1 short), λ g. refused-not-accepted (sym g ∙ e));
+              standing = (λ g. absurd (standing-not-24 g .1 short), λ g. refused-not-accepted (sym g ∙ e));
               twenty-four = (λ _. (c, e, omega arith), λ _. short);
               no-other = inr (inr (inl short));
             }
