@@ -1,4 +1,6 @@
 // CRC-32C (Castagnoli), the checksum of RFC 3720.
+#![tactic(auto)]
+
 mod folding;
 mod table;
 

@@ -1,1 +1,2 @@
 // Worked batches, as data for theorems: no code.
+#![tactic(auto)]

@@ -138,7 +138,7 @@ numbers n = (n ≡ 8) ⊎ (n ≡ 9)
 -- ---- a number
 
 zero_bytes : (s : List ℕ) → Bytes s → Bytes (s ++ (0 ∷ []))
-zero_bytes s b = joined_bytes s (0 ∷ []) b (λ i. elim i [ zero ↦ omega arith | suc j ↦ omega arith ])
+zero_bytes s b = joined_bytes s (0 ∷ []) b (λ i. elim i as (λ k. get_or (0 ∷ []) k 0 < 256) [ zero ↦ omega arith | suc j ↦ omega arith ])
 
 module _ (w : ℕ) (h : 0 < w) (s : List ℕ) (p : ℕ) where
   number_stays : (t : List ℕ) → varint_at w s p ≡ no 9 → varint_at w (s ++ t) p ≡ no 9

@@ -1,5 +1,7 @@
 // Reading the primitive types of the record batch: integers of fixed size, numbers of varying length, and bytes that
 // follow their length. Types and names follow src/protocol/primitives.rs of rskafka 0.6.0.
+#![tactic(auto)]
+
 ghost use Rattle.std.specs.Prelude.{◌≡◌, ◌≤◌};
 ghost use Rattle.primitives.specs.Reading.{unsigned_at, signed_by, code_at, unzigzag};
 ghost use Rattle.primitives.specs.Promises.{NumberPromise, ReadInt8Promise, ReadInt16Promise, ReadInt32Promise, ReadInt64Promise, ReadUint32Promise, ReadUint64Promise, ReadVarintPromise, ReadVarlongPromise, ReadLengthPromise, ReadSpanPromise};

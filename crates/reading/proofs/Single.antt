@@ -22,7 +22,7 @@ checked (no m) = refusal RecordsCheck.Refused (RecordsCheck.Accepted 0 0 0) m
 pub single_check_records : (s : List ℕ) (at count : ℕ) → Single (CheckRecordsPromise s at count)
 single_check_records s at count =
     single_view view_check checked
-    (λ r. elim r [ RecordsCheck.Accepted n m q ↦ refl | RecordsCheck.Refused f ↦ refusal_again RecordsCheck.Refused _ f ]) _
+    (λ r. elim r as (λ k. checked (view_check k) ≡ k) [ RecordsCheck.Accepted n m q ↦ refl | RecordsCheck.Refused f ↦ refusal_again RecordsCheck.Refused _ f ]) _
 
 abbrev read : Answer → RecordsRead
 read a =

@@ -45,7 +45,7 @@ refusal_again refused other BytesLeft = refl
 pub single_read_count : (s : List ℕ) (at : ℕ) → Single (ReadCountPromise s at)
 single_read_count s at =
     single_view view_count (back (λ n p. CountRead.Got n (record { at = p })) CountRead.Refused)
-    (λ r. elim r [ CountRead.Got n c ↦ refl | CountRead.Refused f ↦ ap CountRead.Refused (fault_again f) ]) _
+    (λ r. elim r as (λ k. (back (λ n p. CountRead.Got n (record { at = p })) CountRead.Refused) (view_count k) ≡ k) [ CountRead.Got n c ↦ refl | CountRead.Refused f ↦ ap CountRead.Refused (fault_again f) ]) _
 
 -- the place that two numbers of a row say, from number k on
 abbrev place_of : List ℤ → ℕ → Place
@@ -58,7 +58,7 @@ header_read (no m) = refusal RecordHeaderRead.Refused (RecordHeaderRead.Refused 
 pub single_read_header : (s : List ℕ) (at : ℕ) → Single (ReadHeaderPromise s at)
 single_read_header s at =
     single_view view_header header_read
-    (λ r. elim r [ RecordHeaderRead.Got h c ↦ refl | RecordHeaderRead.Refused f ↦ refusal_again RecordHeaderRead.Refused _ f ]) _
+    (λ r. elim r as (λ k. header_read (view_header k) ≡ k) [ RecordHeaderRead.Got h c ↦ refl | RecordHeaderRead.Refused f ↦ refusal_again RecordHeaderRead.Refused _ f ]) _
 
 abbrev record_got : Heading → ℕ → RecordRead
 record_got h p =
@@ -72,4 +72,4 @@ record_got h p =
 pub single_read_record : (s : List ℕ) (at : ℕ) → Single (ReadRecordPromise s at)
 single_read_record s at =
     single_view view_record (back record_got RecordRead.Refused)
-    (λ r. elim r [ RecordRead.Got h c ↦ refl | RecordRead.Refused f ↦ ap RecordRead.Refused (fault_again f) ]) _
+    (λ r. elim r as (λ k. (back record_got RecordRead.Refused) (view_record k) ≡ k) [ RecordRead.Got h c ↦ refl | RecordRead.Refused f ↦ ap RecordRead.Refused (fault_again f) ]) _

@@ -1,7 +1,7 @@
 -- What each test of the code says of the octets that are left: the judgement takes them one by one, so an octet that it
 -- passes leaves the judgement of those behind it. Assumes nothing.
-use Prim.Native.Nat.{ℕ, ◌+◌, ◌-◌, ◌≤◌, ◌<◌}
-use mathlib.Core.Path.{◌≡◌, refl, sym, ◌∙◌}
+use Prim.Native.Nat.{ℕ, suc, ◌+◌, ◌-◌, ◌≤◌, ◌<◌}
+use mathlib.Core.Path.{◌≡◌, refl, sym, ap, ◌∙◌}
 use mathlib.Core.Bool.{Bool, true, false, not}
 use mathlib.Core.Option.{none, some}
 use mathlib.Core.List.{List, [], ◌∷◌}
@@ -52,7 +52,10 @@ cut_off {rs} {s} {at} h k = record { inside = omega arith; same = too_few rs (dr
 begins : {rs : List Range} (s : List ℕ) (i : ℕ) → i < length s → Row (get_or s i 0) (some rs)
     → goes_on [] (drop i s) ≡ goes_on rs (drop (i + 1) s)
 unfolding goes_on
-begins s i h r = rw (add-one, drop-cons s i 0, row_after r, goes_on)
+begins {rs} s i h r = step ∙ ap (λ k. goes_on rs (drop k s)) (sym (add-one i))
+  where
+  step : goes_on [] (drop i s) ≡ goes_on rs (drop (suc i) s)
+  step = rw (drop-cons s i 0, row_after r, goes_on)
 
 module _ {s : List ℕ} {i : ℕ} (h : i < length s) where
   pub begun : {rs : List Range} {n : ℕ} → Row (get_or s i 0) (some rs) → Judged rs s (i + 1) i n → Judged [] s i i n

@@ -1,4 +1,6 @@
 // Whether bytes are UTF-8 by RFC 3629: no surrogates, no longer forms than needed, nothing above 10FFFF.
+#![tactic(auto)]
+
 ghost use Rattle.std.specs.Prelude.{◌≡◌, true, [], ◌+◌, ◌≤◌, ◌<◌, length, get_or};
 ghost use Rattle.utf8.specs.Judgement.{from, holds};
 ghost use Rattle.utf8.specs.Promises.{IsUtf8Promise};

@@ -1,0 +1,16 @@
+-- `crc32c::table::by_ones` meets its contract: what is left of the bytes takes the register to where all of them take
+-- it. Assumes nothing.
+use Prim.Native.Nat.{◌-◌, ◌≤◌}
+use native.Mathlib.Omega.{arith}
+use mathlib.Core.Path.{◌≡◌, refl}
+use borrow.Author.Rules.{rules}
+use lib.ListN.{length, drop}
+use Rattle.crc32c.specs.Crc.{over, castagnoli}
+use Rattle.crc32c.proofs.Halves.{turn_of_one, ended}
+use Rattle.crc32c.proofs.table.by_ones.Given as goal
+
+abbrev pub invariant-loop-i : goal.invariant-loop-i
+invariant-loop-i l = (l.i ≤ length l.s) × (over castagnoli l.c (drop l.i l.s) ≡ over castagnoli l.register l.s)
+
+abbrev pub decreases-loop-i : goal.decreases-loop-i
+decreases-loop-i l = length l.s - l.i
