@@ -1,4 +1,6 @@
 // What rows of lent tables ask to be written: document 01, Tables, and Writer's numbers, 21 and 22.
+#![tactic(auto)]
+
 ghost use Rattle.std.specs.Prelude.{◌/◌, ◌<◌, ◌≡◌, length};
 ghost use Rattle.records.specs.Rows.{tables};
 ghost use Rattle.asking.specs.Asked.{asked_nullable, asked_count, header_asked, head_asked};

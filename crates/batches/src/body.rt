@@ -30,7 +30,7 @@ impl<'a> BodyReader<'a> {
         records: &mut [i64],
         headers: &mut [i64],
     ) -> RecordsRead
-        ensures* { λ r. ⌜ ReadHeldPromise self.entry count first_header_row (tables records.old headers.old) (record { read = record { result = r; tables = tables records.new headers.new }; body = self.exit.body }) ⌝ }
+        ensures { ReadHeldPromise self.entry count first_header_row (tables records.old headers.old) (record { read = record { result = result; tables = tables records.new headers.new }; body = self.exit.body }) }
     {
         read_records(
             self.body,
@@ -52,7 +52,7 @@ pub fn read_body(
     records: &mut [i64],
     headers: &mut [i64],
 ) -> RecordsRead
-    ensures* { λ r. ⌜ ReadBodyPromise body.now at count first_header_row (tables records.old headers.old) (record { result = r; tables = tables records.new headers.new }) ⌝ }
+    ensures { ReadBodyPromise body.now at count first_header_row (tables records.old headers.old) (record { result = result; tables = tables records.new headers.new }) }
 {
     BodyReader::new(body, at).read_records(count, first_header_row, records, headers)
 }

@@ -109,7 +109,7 @@ impl RecordBatch {
         records: &mut [i64],
         headers: &mut [i64],
     ) -> BatchRead
-        ensures* { λ r. ⌜ ReadPromise mode bytes.now (tables records.old headers.old) (record { result = r; tables = tables records.new headers.new }) ⌝ }
+        ensures { ReadPromise mode bytes.now (tables records.old headers.old) (record { result = result; tables = tables records.new headers.new }) }
     {
         read_at(mode, bytes, 0, 0, records, headers)
     }
@@ -162,7 +162,7 @@ impl RecordBatch {
         source: &[u8],
         output: &mut [u8],
     ) -> Written
-        ensures* { λ r. ⌜ WritePromise mode self codec kind (tables records.now headers.now) source.now output.old (record { result = r; output = output.new }) ⌝ }
+        ensures { WritePromise mode self codec kind (tables records.now headers.now) source.now output.old (record { result = result; output = output.new }) }
     {
         let fields = self.fields();
         if codec != 0 {
@@ -287,7 +287,7 @@ fn read_at(
     records: &mut [i64],
     headers: &mut [i64],
 ) -> BatchRead
-    ensures* { λ r. ⌜ ReadBy (judge_at mode bytes.now at first_header_row) (tables records.old headers.old) (record { result = r; tables = tables records.new headers.new }) ⌝ }
+    ensures { ReadBy (judge_at mode bytes.now at first_header_row) (tables records.old headers.old) (record { result = result; tables = tables records.new headers.new }) }
 {
     match open_at(bytes, at) {
         Opened::Got {
@@ -353,7 +353,7 @@ fn of_records(read: RecordsRead, batch: RecordBatch, total: usize) -> BatchRead
 }
 
 fn write_marker(fields: BatchFields, marker: ControlBatchRecord, output: &mut [u8]) -> Written
-    ensures* { λ r. ⌜ WriteBy (given (written_batch (record { fields = view_batch_fields fields; content = control (view_marker marker) }))) 0 output.old (record { result = r; output = output.new }) ⌝ }
+    ensures { WriteBy (given (written_batch (record { fields = view_batch_fields fields; content = control (view_marker marker) }))) 0 output.old (record { result = result; output = output.new }) }
 {
     if output.len() < MARKED {
         return Written::Refused(WriteFault::ShortOutput);
@@ -373,7 +373,7 @@ fn write_rows(
     source: &[u8],
     output: &mut [u8],
 ) -> Written
-    ensures* { λ r. ⌜ WriteBy (batch_given_by (view_batch_fields fields) source.now (rows_asked count (tables records.now headers.now) source.now)) 0 output.old (record { result = r; output = output.new }) ⌝ }
+    ensures { WriteBy (batch_given_by (view_batch_fields fields) source.now (rows_asked count (tables records.now headers.now) source.now)) 0 output.old (record { result = result; output = output.new }) }
 {
     match write_records(
         records,

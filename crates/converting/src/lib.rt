@@ -41,7 +41,7 @@ pub enum Converted {
 // Writes what is given for the batch that the bytes begin with to the output's start. No byte of the output is touched
 // before all is known to be right and to have room.
 pub fn convert(bytes: &[u8], output: &mut [u8]) -> Converted
-    ensures* { λ r. ⌜ ConvertPromise bytes.now output.old (record { result = r; output = output.new }) ⌝ }
+    ensures { ConvertPromise bytes.now output.old (record { result = result; output = output.new }) }
 {
     match RecordBatch::check(ControlMode::Keyed, bytes) {
         BatchCheck::Accepted {
@@ -62,7 +62,7 @@ pub fn convert(bytes: &[u8], output: &mut [u8]) -> Converted
 
 // All bytes of a batch, as they stand.
 fn copy(batch: &[u8], output: &mut [u8]) -> Converted
-    ensures* { λ r. ⌜ GivenBy (accepted (record { taken = length batch.now; given = batch.now })) output.old (record { result = r; output = output.new }) ⌝ }
+    ensures { GivenBy (accepted (record { taken = length batch.now; given = batch.now })) output.old (record { result = result; output = output.new }) }
 {
     let n = batch.len();
     if output.len() < n {
@@ -75,7 +75,7 @@ fn copy(batch: &[u8], output: &mut [u8]) -> Converted
 // A control batch whose marker stands alone. What has been judged is not refused when it is read again.
 fn rekey(bytes: &[u8], output: &mut [u8]) -> Converted
     requires { Bytes bytes.now × (judge ControlMode.Keyed bytes.now ≡ refused 41) }
-    ensures* { λ r. ⌜ GivenBy (conversion_of bytes.now) output.old (record { result = r; output = output.new }) ⌝ }
+    ensures { GivenBy (conversion_of bytes.now) output.old (record { result = result; output = output.new }) }
 {
     if output.len() < KEYED {
         return Converted::ShortOutput;

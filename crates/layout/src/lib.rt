@@ -1,5 +1,7 @@
 // The fixed fields of a batch, and how they are laid out as bytes. Names follow src/protocol/record.rs of rskafka
 // 0.6.0.
+#![tactic(auto)]
+
 ghost use Rattle.std.specs.Prelude.{◌≡◌, ◌+ℤ◌};
 ghost use Rattle.numbers.specs.Format.{big_endian, in_bits};
 ghost use Rattle.numbers.specs.Pen.{pen, emit};

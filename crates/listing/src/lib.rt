@@ -56,7 +56,7 @@ pub fn list_first(bytes: &[u8]) -> Entry
 
 // The line of the batch that starts at `place`, which is read into both tables; or the last line.
 pub fn list_at(bytes: &[u8], place: usize, records: &mut [i64], headers: &mut [i64]) -> Entry
-    ensures* { λ r. ⌜ ListAtPromise bytes.now place (tables records.old headers.old) (record { result = r; tables = tables records.new headers.new }) ⌝ }
+    ensures { ListAtPromise bytes.now place (tables records.old headers.old) (record { result = result; tables = tables records.new headers.new }) }
 {
     if bytes.len() <= place {
         return last(end_line(bytes.len()));

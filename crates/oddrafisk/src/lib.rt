@@ -181,7 +181,7 @@ fn write_asked(
     source: &[u8],
     output: &mut [u8],
 ) -> Written
-    ensures* { λ r. ⌜ WritesFor mode batch.now codec (tables records.now headers.now) source.now output.old (record { result = r; output = output.new }) ⌝ }
+    ensures { WritesFor mode batch.now codec (tables records.now headers.now) source.now output.old (record { result = result; output = output.new }) }
 {
     if codec != 0 {
         return Written::Refused(WriteFault::Codec);

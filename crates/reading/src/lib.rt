@@ -1,5 +1,7 @@
 // Records, one after the other, read from lent bytes into lent tables. Names follow src/protocol/record.rs of rskafka
 // 0.6.0.
+#![tactic(auto)]
+
 ghost use Rattle.std.specs.Prelude.{◌+◌, ◌/◌, ◌^◌, ◌<◌, min, ◌≡◌, false, [], ◌∷◌, ◌++◌, leb, pos};
 ghost use Rattle.numbers.specs.Pick.{pick};
 ghost use Rattle.primitives.specs.Step.{map_step, times};
@@ -97,7 +99,7 @@ pub fn read_records(
     records: &mut [i64],
     headers: &mut [i64],
 ) -> RecordsRead
-    ensures* { λ r. ⌜ ReadRecordsPromise bytes.now at count first_header_row (tables records.old headers.old) (record { result = r; tables = tables records.new headers.new }) ⌝ }
+    ensures { ReadRecordsPromise bytes.now at count first_header_row (tables records.old headers.old) (record { result = result; tables = tables records.new headers.new }) }
 {
     match check_records(bytes, at, count) {
         RecordsCheck::Accepted {

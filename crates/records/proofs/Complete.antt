@@ -59,7 +59,7 @@ module _ {A R : Type 0} {G : List ℕ → A → Type 0} (place : (x : List ℕ) 
       → times f (length run) p ≡ ok (placed_run place p g) q
   unfolding times placed_run
   times_reads {p} z Run.ended = ap (ok []) (sym (z.end ∙ add-zero p))
-  times_reads {p} z (Run.more {x} {y} {a} g rest) = rw (each p (p + length x) x a (first x y z) g, times_reads (second x y z) rest)
+  times_reads {p} z (Run.more {x} {y} {a} g rest) = rw (each p (p + length x) x a (first x y z) g, times_reads {p = p + length x} (second x y z) rest)
 
 -- ---- a header
 

@@ -49,8 +49,8 @@ module _ {A R : Type 0} {G : List ℕ → A → Type 0} (place : (x : List ℕ) 
     (each : (p q : ℕ) (x : List ℕ) (a : A) → Stands s p q x → (g : G x a) → P (place x a p g)) where
   run_inside : {p q : ℕ} {bs : List ℕ} {run : List A} → Stands s p q bs → (g : Run G bs run) → Each P (placed_run place p g)
   unfolding placed_run Each
-  run_inside z Run.ended = tt
-  run_inside {p} z (Run.more {x} {y} {a} g rest) = (each p (p + length x) x a (first x y z) g, run_inside (second x y z) rest)
+  run_inside {p} z Run.ended = tt
+  run_inside {p} z (Run.more {x} {y} {a} g rest) = (each p (p + length x) x a (first x y z) g, run_inside {p = p + length x} (second x y z) rest)
 
 header_inside : {strict : Bool} {s : List ℕ} {p q : ℕ} {bs : List ℕ} {h : Header} → Stands s p q bs → (g : HeaderBytes strict bs h)
     → HeaderInside s (placed_header p g)

@@ -31,8 +31,8 @@ module _ {A R : Type 0} {G : List ℕ → A → Type 0} (place : (x : List ℕ) 
     (each : (p q : ℕ) (x : List ℕ) (a : A) → Stands s p q x → (g : G x a) → show (place x a p g) ≡ a) where
   run_shows : {p q : ℕ} {bs : List ℕ} {run : List A} → Stands s p q bs → (g : Run G bs run) → map show (placed_run place p g) ≡ run
   unfolding placed_run
-  run_shows z Run.ended = refl
-  run_shows {p} z (Run.more {x} {y} {a} g rest) = rw (each p (p + length x) x a (first x y z) g, run_shows (second x y z) rest)
+  run_shows {p} z Run.ended = refl
+  run_shows {p} z (Run.more {x} {y} {a} g rest) = rw (each p (p + length x) x a (first x y z) g, run_shows {p = p + length x} (second x y z) rest)
 
 -- ---- a header, a record, records
 

@@ -51,13 +51,13 @@ no_records (Run.more {x} {y} g rest) e = absurd (omega (arith, length-append x y
 -- from one place to another
 equal_from : {strict strict' : Bool} {s : List ℕ} {p q : ℕ} {bs bs' : List ℕ} {m n : List Record} → Stands s p q bs → Stands s p q bs'
     → RecordsBytes strict bs m → RecordsBytes strict' bs' n → m ≡ n
-equal_from u v Run.ended h = no_records h (omega (arith, u.end, v.end))
-equal_from u v (Run.more g rest) Run.ended = sym (no_records (Run.more g rest) (omega (arith, u.end, v.end)))
-equal_from {strict} {strict'} {s} {p} {q} u v (Run.more {x} {y} {a} g rest) (Run.more {x = x'} {y = y'} {a = a'} g' rest') =
+equal_from {p = p} u v Run.ended h = no_records h (omega (arith, u.end, v.end))
+equal_from {p = p} u v (Run.more g rest) Run.ended = sym (no_records (Run.more g rest) (omega (arith, u.end, v.end)))
+equal_from {strict = strict} {strict' = strict'} {s = s} {p = p} {q = q} u v (Run.more {x} {y} {a} g rest) (Run.more {x = x'} {y = y'} {a = a'} g' rest') =
     let one = record_complete strict s p (p + length x) x a (first x y u) g in
     let other = record_complete strict' s p (p + length x') x' a' (first x' y' v) g' in
     let (ends, values) = same_answer (shown_record s) one other in
-    rw (values, equal_from (second x y u) (subst (λ (i : ℕ). Stands s i q y') (sym ends) (second x' y' v)) rest rest')
+    rw (values, equal_from {p = p + length x} (second x y u) (subst (λ (i : ℕ). Stands s i q y') (sym ends) (second x' y' v)) rest rest')
 
 pub runs_equal : RunsEqual
 runs_equal strict strict' bs m n g h = equal_from (whole bs) (whole bs) g h

@@ -1,4 +1,6 @@
 // A record up to its headers, and a header, read from lent bytes. Names follow src/protocol/record.rs of rskafka 0.6.0.
+#![tactic(auto)]
+
 ghost use Rattle.std.specs.Prelude.{◌+◌, ◌^◌, ◌<◌, ◌≡◌, [], ◌∷◌, pos};
 ghost use Rattle.primitives.specs.Step.{map_step};
 ghost use Rattle.primitives.specs.Reading.{span_at};

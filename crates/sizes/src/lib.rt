@@ -1,5 +1,7 @@
 // How many bytes things take when they are written: a number, bytes after their length, a key or a value. Sizes of
 // bytes stop at a limit that no record reaches, so that sums of them stay small.
+#![tactic(auto)]
+
 ghost use Rattle.sizes.specs.Promises.{NumberSizePromise, SpanSizePromise, PlaceSizePromise, CappedPromise};
 
 use numbers::Varlong;

@@ -99,7 +99,7 @@ pub fn write_records(
     output: &mut [u8],
     at: usize,
 ) -> Written
-    ensures* { λ r. ⌜ WriteRecordsPromise (tables records.now headers.now) first_header_row count source.now at output.old (record { result = r; output = output.new }) ⌝ }
+    ensures { WriteRecordsPromise (tables records.now headers.now) first_header_row count source.now at output.old (record { result = result; output = output.new }) }
 {
     match measure_records(records, headers, first_header_row, count, source) {
         Written::Bytes(n) => {

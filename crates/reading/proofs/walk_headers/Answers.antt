@@ -1,0 +1,29 @@
+-- `reading::walk_headers` meets its contract. Assumes nothing.
+use borrow.Author.Rules.{rules}
+use Rattle.reading.specs.Walk.{put_headers}
+use Rattle.records.specs.Judgement.{header_at}
+use Rattle.primitives.specs.Step.{map_step, times}
+use lib.ListN.{length}
+use Prim.Native.Nat.{◌+◌, ◌≤◌}
+use mathlib.Core.Path.{◌≡◌, refl, ◌∙◌}
+use native.Mathlib.Omega.{arith}
+use Rattle.reading.proofs.WalkSteps.{headers_stop, headers_turn, headers_end}
+use Rattle.reading.proofs.walk_headers.Goals as goal
+
+pub loop-left-init : goal.loop-left-init
+loop-left-init c = (refl, refl, omega arith)
+
+pub shape_of-headers-in-Refused : goal.shape_of-headers-in-Refused
+shape_of-headers-in-Refused c = c.loop-left.invariant.1
+
+pub returns-in-Refused : goal.returns-in-Refused
+returns-in-Refused c = search headers_stop
+
+pub loop-left-preserved : goal.loop-left-preserved
+loop-left-preserved c = (search headers_turn, c.put_header.auto.0 ∙ c.loop-left.invariant.1, omega arith)
+
+pub shape_of-headers : goal.shape_of-headers
+shape_of-headers c = c.loop-left.invariant.1
+
+pub returns : goal.returns
+returns c = search headers_end
