@@ -13,7 +13,7 @@ use crc32c::{crc32c, update};
 use numbers::{Int8, Int16, Int32, Int64, Uint32, put};
 
 // Whose time the records have.
-#[derive(Drop)]
+#[derive(Clone, Copy)]
 pub enum RecordBatchTimestampType {
     CreateTime,
     LogAppendTime,
@@ -21,21 +21,21 @@ pub enum RecordBatchTimestampType {
 
 // Which control batches there are: none, or those whose marker is in the key of a record, as brokers write it. Bare has
 // its name from the form that is withdrawn.
-#[derive(Drop)]
+#[derive(Clone, Copy)]
 pub enum ControlMode {
     Bare,
     Keyed,
 }
 
 // The last offset, counted from the base offset, and the times that the records' own are counted from and end at.
-#[derive(Drop)]
+#[derive(Clone, Copy)]
 pub struct Times {
     pub last_offset_delta: i32,
     pub first_timestamp: i64,
     pub max_timestamp: i64,
 }
 
-#[derive(Drop)]
+#[derive(Clone, Copy)]
 pub struct Producer {
     pub id: i64,
     pub epoch: i16,
@@ -43,7 +43,7 @@ pub struct Producer {
 }
 
 // The fixed fields that say something of their own; all others are worked out.
-#[derive(Drop)]
+#[derive(Clone, Copy)]
 pub struct BatchFields {
     pub base_offset: i64,
     pub partition_leader_epoch: i32,
@@ -54,7 +54,7 @@ pub struct BatchFields {
 }
 
 // The time of a record, or that there is none.
-#[derive(Drop)]
+#[derive(Clone, Copy)]
 pub enum RecordTime {
     Time(i64),
     NoTime,

@@ -12,11 +12,10 @@ returns-then-not-has_room c = search read_no_room
 
 pub walk-requires : goal.walk-requires
 walk-requires c =
-    let counts = c.n-1.given in
     let room = c.has_room in
     omega (
       arith,
-      first_fits counts.0.0 counts.0.1.0 c.args.first-header-row (length c.args.records.now)
+      first_fits c.in-Accepted.n c.in-Accepted.m c.args.first_header_row (length c.args.records.now)
           (length c.args.headers.now) room.result room.ensures (ap not c.if-not-has_room.false),
     )
 

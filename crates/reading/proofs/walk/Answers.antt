@@ -19,10 +19,10 @@ pub overflow_add-sum : goal.overflow_add-sum
 overflow_add-sum c = omega (arith, walked_moves _ _ _ _ _ _ _ c.walk_record.ensures _ _ c.in-Headers.is)
 
 pub shape_of-records-in-Refused : goal.shape_of-records-in-Refused
-shape_of-records-in-Refused c = c.walk_record.auto.1.1.1.1.0 ∙ c.loop-left.invariant.1
+shape_of-records-in-Refused c = c.walk_record.auto.records ∙ c.loop-left.invariant.1
 
 pub shape_of-headers-in-Refused : goal.shape_of-headers-in-Refused
-shape_of-headers-in-Refused c = c.walk_record.auto.1.1.1.1.1.0 ∙ c.loop-left.invariant.2
+shape_of-headers-in-Refused c = c.walk_record.auto.headers ∙ c.loop-left.invariant.2
 
 pub returns-in-Refused : goal.returns-in-Refused
 returns-in-Refused c = search run_stop
@@ -32,7 +32,7 @@ loop-left-preserved c =
     let i = c.loop-left.invariant in
     let w = c.walk_record in
     let m = walked_moves _ _ _ _ _ _ _ w.ensures _ _ c.in-Headers.is in
-    (search run_turn, w.auto.1.1.1.1.0 ∙ i.1, w.auto.1.1.1.1.1.0 ∙ i.2, omega arith, omega (arith, m), omega (arith, m))
+    (search run_turn, w.auto.records ∙ i.1, w.auto.headers ∙ i.2, omega arith, omega (arith, m), omega (arith, m))
 
 pub shape_of-records : goal.shape_of-records
 shape_of-records c = c.loop-left.invariant.1

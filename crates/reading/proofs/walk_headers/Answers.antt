@@ -20,7 +20,7 @@ pub returns-in-Refused : goal.returns-in-Refused
 returns-in-Refused c = search headers_stop
 
 pub loop-left-preserved : goal.loop-left-preserved
-loop-left-preserved c = (search headers_turn, c.put_header.auto.0 ∙ c.loop-left.invariant.1, omega arith)
+loop-left-preserved c = (search headers_turn, c.put_header.auto.t ∙ c.loop-left.invariant.1, omega arith)
 
 pub shape_of-headers : goal.shape_of-headers
 shape_of-headers c = c.loop-left.invariant.1
