@@ -14,7 +14,7 @@ use utf8::is_utf8;
 
 // Why a batch, or its records, are not written. Records alone are never refused for their codec, or for a
 // marker.
-#[derive(Drop)]
+#[derive(Clone, Copy)]
 pub enum WriteFault {
     Codec,
     Row,
@@ -26,7 +26,7 @@ pub enum WriteFault {
 }
 
 // Bytes of the source, or null.
-#[derive(Drop)]
+#[derive(Clone, Copy)]
 pub enum Shown {
     Null,
     Bytes(Span),
@@ -39,7 +39,7 @@ enum Asked {
     Wrong,
 }
 
-#[derive(Drop)]
+#[derive(Clone, Copy)]
 pub struct AskedHeader {
     pub key: Span,
     pub value: Span,
@@ -59,7 +59,7 @@ enum CountAsked {
 }
 
 // What a record's row itself asks for: its headers are so many rows of their own.
-#[derive(Drop)]
+#[derive(Clone, Copy)]
 pub struct AskedRecord {
     pub timestamp_delta: i64,
     pub offset_delta: i32,

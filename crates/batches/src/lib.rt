@@ -34,7 +34,7 @@ use writing::{Written, measure_records, write_records};
 const MARKED: usize = BatchFields::FIXED + 11;
 
 // The fields of a batch that are handed out and in; all else is worked out.
-#[derive(Drop)]
+#[derive(Clone, Copy)]
 pub struct RecordBatch {
     pub base_offset: i64,
     pub partition_leader_epoch: i32,
@@ -49,7 +49,7 @@ pub struct RecordBatch {
 }
 
 // The kind of a batch: a marker, or as many records as rows of the record table hold.
-#[derive(Drop)]
+#[derive(Clone, Copy)]
 pub enum ControlBatchOrRecords {
     ControlBatch(ControlBatchRecord),
     Records(usize),

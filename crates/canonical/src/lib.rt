@@ -1,6 +1,8 @@
 // The canonical check of records: whether bytes are records in the very form in which they are written. A number has no
 // encoding that is shorter than what is written for it, and none other that is as short: so a record is in that form
 // where its length is, its attributes are 0, and its fields are as long together as they are written.
+#![tactic(auto)]
+
 ghost use Rattle.std.specs.Prelude.{◌+◌, ◌≡◌};
 ghost use Rattle.primitives.specs.Step.{map_step, times};
 ghost use Rattle.records.specs.Judgement.{header_at, fields_at};

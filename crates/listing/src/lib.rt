@@ -20,7 +20,7 @@ pub struct Line {
 }
 
 // Where the listing goes on.
-#[derive(Drop)]
+#[derive(Clone, Copy)]
 pub enum Next {
     At(usize),
     Done,

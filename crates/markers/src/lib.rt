@@ -16,7 +16,7 @@ use reading::{RecordsCheck, check_records};
 use records::{CountRead, Place, Record, RecordFault, RecordRead, read_count};
 
 // The marker that ends a transaction.
-#[derive(Drop)]
+#[derive(Clone, Copy)]
 pub enum ControlBatchRecord {
     Abort,
     Commit,

@@ -1,4 +1,6 @@
 // The fixed fields of a batch, read and judged: all that is met before its marker or its records.
+#![tactic(auto)]
+
 ghost use Rattle.std.specs.Prelude.{◌+◌, ◌≤◌, ◌≡◌, eqb, length, drop};
 ghost use Rattle.numbers.specs.Pick.{pick};
 ghost use Rattle.numbers.specs.Format.{complement};
@@ -17,7 +19,7 @@ use primitives::{Cursor, Fault, Int8Read, Int16Read, Int32Read, Int64Read, Uint3
 use records::RecordFault;
 
 // Why a batch is refused.
-#[derive(Drop)]
+#[derive(Clone, Copy)]
 pub enum BatchFault {
     LengthTooSmall,
     UnknownMagic,
@@ -32,7 +34,7 @@ pub enum BatchFault {
 }
 
 // What stands before the count of batch_length begins to count.
-#[derive(Drop)]
+#[derive(Clone, Copy)]
 struct Lead {
     base_offset: i64,
     batch_length: i32,
@@ -44,7 +46,7 @@ enum LeadRead {
     Refused(Fault),
 }
 
-#[derive(Drop)]
+#[derive(Clone, Copy)]
 struct Version {
     partition_leader_epoch: i32,
     magic: i8,
@@ -57,7 +59,7 @@ enum VersionRead {
 }
 
 // What is known of a batch once its length and magic have been met and all its bytes are there.
-#[derive(Drop)]
+#[derive(Clone, Copy)]
 struct Frame {
     base_offset: i64,
     partition_leader_epoch: i32,
@@ -72,7 +74,7 @@ enum FrameRead {
 }
 
 // What the attributes say.
-#[derive(Drop)]
+#[derive(Clone, Copy)]
 struct Attributes {
     codec: u8,
     timestamp_type: RecordBatchTimestampType,

@@ -10,13 +10,13 @@ ghost use Rattle.primitives.specs.Words.{view_raw, Halved, Holds};
 use numbers::{Int8, Int16, Int32, Int64, Uint32, Uint64, Varint, Varlong};
 
 // A place in lent bytes, which are passed beside it. Fields are read up to the end of the bytes that are passed.
-#[derive(Drop)]
+#[derive(Clone, Copy)]
 pub struct Cursor {
     pub at: usize,
 }
 
 // Why a field is refused.
-#[derive(Drop)]
+#[derive(Clone, Copy)]
 pub enum Fault {
     PastEnd,
     BeyondLimits,
@@ -80,7 +80,7 @@ pub enum LengthRead {
 }
 
 // Where bytes start, counted from the first byte that is passed, and how many they are.
-#[derive(Drop)]
+#[derive(Clone, Copy)]
 pub struct Span {
     pub start: usize,
     pub len: usize,

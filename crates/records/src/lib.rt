@@ -14,7 +14,7 @@ use primitives::{Cursor, Fault, Int8Read, LengthRead, Span, SpanRead, VarintRead
 use utf8::is_utf8;
 
 // Why records are refused.
-#[derive(Drop)]
+#[derive(Clone, Copy)]
 pub enum RecordFault {
     Field(Fault),
     KeyNotUtf8,
@@ -22,26 +22,26 @@ pub enum RecordFault {
 }
 
 // Where bytes stand, as a row has it: start and length, 0 and -1 for null.
-#[derive(Drop)]
+#[derive(Clone, Copy)]
 pub struct Place {
     pub start: i64,
     pub len: i64,
 }
 
-#[derive(Drop)]
+#[derive(Clone, Copy)]
 pub struct RecordHeader {
     pub key: Place,
     pub value: Place,
 }
 
-#[derive(Drop)]
+#[derive(Clone, Copy)]
 pub struct RecordDeltas {
     pub timestamp: i64,
     pub offset: i64,
 }
 
 // What a record has before its headers, and how many these are.
-#[derive(Drop)]
+#[derive(Clone, Copy)]
 pub struct Record {
     pub deltas: RecordDeltas,
     pub key: Place,

@@ -1,4 +1,6 @@
 // Records and their headers, written from lent tables and a lent source into a lent output.
+#![tactic(auto)]
+
 ghost use Rattle.std.specs.Prelude.{◌+◌, ◌*◌, ◌/◌, ◌^◌, ◌<◌, ◌≤◌, ◌≡◌, [], ◌∷◌, ◌++◌, map, ltb, pos, length};
 ghost use Rattle.numbers.specs.Format.{zigzag, shortest};
 ghost use Rattle.numbers.specs.Pen.{pen, emit};

@@ -1,0 +1,58 @@
+-- `writing::size_record` meets its contract. Assumes nothing.
+use borrow.Author.Rules.{rules}
+use Prim.Native.Nat.{◌^◌, ◌<◌}
+use mathlib.Core.Logic.{⊎_elim}
+use native.Mathlib.Omega.{arith}
+use Rattle.records.specs.Rows.{tables}
+use Rattle.asking.specs.Answers.{head_of}
+use Rattle.writing.proofs.Inside.{Sound}
+use Rattle.writing.proofs.Fields.{head_sound, FieldsSized, fields_sized, head_alone, row_wrong, row_refused, row_sized}
+use Rattle.writing.proofs.Sizing.{row_head_sized}
+use Rattle.writing.proofs.size_record.Goals as goal
+
+pub overflow_add-next : goal.overflow_add-next
+overflow_add-next c =
+    let sound : (Sound (tables c.args.records.now c.args.headers.now) c.args.source.now c.args.first (head_of c.in-Got.r)) = head_sound (tables c.args.records.now c.args.headers.now) c.args.source.now _ _ _ _ c.requires c.record_asked.ensures c.in-Got.is in
+    omega (arith, sound.room)
+
+pub overflow_add-bytes : goal.overflow_add-bytes
+overflow_add-bytes c = omega (arith, c.shown_size.ensures, c.shown_size-in-Got.ensures)
+
+pub head_size-head-requires : goal.head_size-head-requires
+head_size-head-requires c =
+    let few : c.in-Got.r.headers < 2 ^ 63 =
+        let sound : (Sound (tables c.args.records.now c.args.headers.now) c.args.source.now c.args.first (head_of c.in-Got.r)) = head_sound (tables c.args.records.now c.args.headers.now) c.args.source.now _ _ _ _ c.requires c.record_asked.ensures c.in-Got.is in
+        omega (arith, sound.room)
+    in
+    (omega (arith, c.shown_size.ensures, c.shown_size-in-Got.ensures), few)
+
+pub size_headers-fields-requires : goal.size_headers-fields-requires
+size_headers-fields-requires c =
+    let sound : (Sound (tables c.args.records.now c.args.headers.now) c.args.source.now c.args.first (head_of c.in-Got.r)) = head_sound (tables c.args.records.now c.args.headers.now) c.args.source.now _ _ _ _ c.requires c.record_asked.ensures c.in-Got.is in
+    (sound.room, omega (arith, c.head_size-head.ensures))
+
+pub returns-in-Size : goal.returns-in-Size
+returns-in-Size c =
+    let sized : (FieldsSized c.args.headers.now c.args.source.now c.args.first c.in-Got.r c.if-r-eq0.fields) =
+        let is = row_head_sized c.in-Got.r (search rules) (search rules) _ _ _ c.shown_size.ensures c.shown_size-in-Got.ensures c.head_size-head.ensures in
+        ⊎_elim {C = FieldsSized c.args.headers.now c.args.source.now c.args.first c.in-Got.r c.if-r-eq0.fields}
+        (λ w. head_alone c.in-Got.r _ _ _ _ _ is w.0.taken w.1)
+        (λ w. fields_sized c.in-Got.r _ _ _ _ _ is _ w.1.ensures w.2) c.if-r-eq0.branch
+    in
+    row_sized (tables c.args.records.now c.args.headers.now) c.args.source.now _ _ _ c.requires c.record_asked.ensures _ c.in-Got.is _ _
+    sized _ c.in-Size.is _ c.span_size.ensures
+
+pub returns-in-Refused : goal.returns-in-Refused
+returns-in-Refused c =
+    let sized : (FieldsSized c.args.headers.now c.args.source.now c.args.first c.in-Got.r c.if-r-eq0.fields) =
+        let is = row_head_sized c.in-Got.r (search rules) (search rules) _ _ _ c.shown_size.ensures c.shown_size-in-Got.ensures c.head_size-head.ensures in
+        ⊎_elim {C = FieldsSized c.args.headers.now c.args.source.now c.args.first c.in-Got.r c.if-r-eq0.fields}
+        (λ w. head_alone c.in-Got.r _ _ _ _ _ is w.0.taken w.1)
+        (λ w. fields_sized c.in-Got.r _ _ _ _ _ is _ w.1.ensures w.2) c.if-r-eq0.branch
+    in
+    row_refused (tables c.args.records.now c.args.headers.now) c.args.source.now _ _ _ c.requires c.record_asked.ensures _ c.in-Got.is _ _
+    sized _ _ c.in-Refused.is
+
+pub returns-in-Wrong : goal.returns-in-Wrong
+returns-in-Wrong c =
+    row_wrong (tables c.args.records.now c.args.headers.now) c.args.source.now _ _ _ c.requires c.record_asked.ensures _ c.in-Wrong.is
