@@ -9,5 +9,5 @@ overflow_cast-offset_delta c = narrow_fits c.args.offset_delta (search rules)
 pub returns : goal.returns
 returns c =
     let a = c.args in
-    head_sized a.timestamp-delta a.offset-delta a.headers c.ranges.timestamp_delta c.ranges.offset_delta c.requires.1 _ _ _ _ _
+    head_sized a.timestamp_delta a.offset_delta a.headers c.ranges.timestamp_delta c.ranges.offset_delta c.requires.1 _ _ _ _ _
     c.number_size.ensures c.number_size-2.ensures c.number_size-3.ensures c.capped.ensures

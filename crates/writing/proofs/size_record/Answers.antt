@@ -9,6 +9,7 @@ use Rattle.writing.proofs.Inside.{Sound}
 use Rattle.writing.proofs.Fields.{head_sound, FieldsSized, fields_sized, head_alone, row_wrong, row_refused, row_sized}
 use Rattle.writing.proofs.Sizing.{row_head_sized}
 use Rattle.writing.proofs.size_record.Goals as goal
+use Rattle.writing.proofs.size_record.Goals.{then-r-eq0, else-r-eq0}
 
 pub overflow_add-next : goal.overflow_add-next
 overflow_add-next c =
@@ -35,9 +36,10 @@ pub returns-in-Size : goal.returns-in-Size
 returns-in-Size c =
     let sized : (FieldsSized c.args.headers.now c.args.source.now c.args.first c.in-Got.r c.if-r-eq0.fields) =
         let is = row_head_sized c.in-Got.r (search rules) (search rules) _ _ _ c.shown_size.ensures c.shown_size-in-Got.ensures c.head_size-head.ensures in
-        ⊎_elim {C = FieldsSized c.args.headers.now c.args.source.now c.args.first c.in-Got.r c.if-r-eq0.fields}
-        (λ w. head_alone c.in-Got.r _ _ _ _ _ is w.0.taken w.1)
-        (λ w. fields_sized c.in-Got.r _ _ _ _ _ is _ w.1.ensures w.2) c.if-r-eq0.branch
+        elim c.if-r-eq0.branch [
+          then-r-eq0 w ↦ head_alone c.in-Got.r _ _ _ _ _ is w.if-r-eq0.true w.fields-is
+          | else-r-eq0 w ↦ fields_sized c.in-Got.r _ _ _ _ _ is _ w.size_headers-fields.ensures w.fields-is
+        ]
     in
     row_sized (tables c.args.records.now c.args.headers.now) c.args.source.now _ _ _ c.requires c.record_asked.ensures _ c.in-Got.is _ _
     sized _ c.in-Size.is _ c.span_size.ensures
@@ -46,9 +48,10 @@ pub returns-in-Refused : goal.returns-in-Refused
 returns-in-Refused c =
     let sized : (FieldsSized c.args.headers.now c.args.source.now c.args.first c.in-Got.r c.if-r-eq0.fields) =
         let is = row_head_sized c.in-Got.r (search rules) (search rules) _ _ _ c.shown_size.ensures c.shown_size-in-Got.ensures c.head_size-head.ensures in
-        ⊎_elim {C = FieldsSized c.args.headers.now c.args.source.now c.args.first c.in-Got.r c.if-r-eq0.fields}
-        (λ w. head_alone c.in-Got.r _ _ _ _ _ is w.0.taken w.1)
-        (λ w. fields_sized c.in-Got.r _ _ _ _ _ is _ w.1.ensures w.2) c.if-r-eq0.branch
+        elim c.if-r-eq0.branch [
+          then-r-eq0 w ↦ head_alone c.in-Got.r _ _ _ _ _ is w.if-r-eq0.true w.fields-is
+          | else-r-eq0 w ↦ fields_sized c.in-Got.r _ _ _ _ _ is _ w.size_headers-fields.ensures w.fields-is
+        ]
     in
     row_refused (tables c.args.records.now c.args.headers.now) c.args.source.now _ _ _ c.requires c.record_asked.ensures _ c.in-Got.is _ _
     sized _ _ c.in-Refused.is
