@@ -1,4 +1,6 @@
 // The marker of a control batch, read and written. Names follow src/protocol/record.rs of rskafka 0.6.0.
+#![tactic(auto)]
+
 ghost use Rattle.std.specs.Prelude.{◌≡◌, true, length};
 ghost use Rattle.numbers.specs.Exactly.{Exactly};
 ghost use Rattle.primitives.specs.Stands.{Stands};

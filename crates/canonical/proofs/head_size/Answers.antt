@@ -8,5 +8,5 @@ pub returns : goal.returns
 returns c =
     let r = c.args.r in
     head_got r.deltas.timestamp r.deltas.offset r.key.len r.value.len r.headers _ _ _ _ _ _ (search rules) (search rules)
-    (search rules) (search rules) (omega (arith, first.before.before)) c.number_size.ensures c.number_size-2.ensures
+    (search rules) (search rules) (omega arith) c.number_size.ensures c.number_size-2.ensures
     c.number_size-3.ensures c.place_size.ensures c.place_size-2.ensures c.capped.ensures
