@@ -1,5 +1,7 @@
 // Batches of records, read from lent bytes into lent tables, and written from lent tables and a lent source into a lent
 // output. Names follow src/protocol/record.rs of rskafka 0.6.0.
+#![tactic(auto)]
+
 pub mod body;
 
 ghost use Rattle.std.specs.Prelude.{◌+◌, ◌-◌, ◌≤◌, ◌≡◌, ◌++◌, pos, length, take, drop};
