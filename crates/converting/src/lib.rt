@@ -1,4 +1,6 @@
 // Stored batches, brought from the form of control batches that is withdrawn to the one that is read and written.
+#![tactic(auto)]
+
 ghost use Rattle.std.specs.Prelude.{◌≤◌, ◌≡◌, ◌++◌, length, drop};
 ghost use Rattle.numbers.specs.Bytes.{Bytes};
 ghost use Rattle.layout.specs.Table.{fixed_part};

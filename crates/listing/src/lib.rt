@@ -1,4 +1,6 @@
 // What the program `list` prints of a file: one line after the other, each handed out by value.
+#![tactic(auto)]
+
 ghost use Rattle.std.specs.Prelude.{◌≡◌, [], ◌∷◌, ◌++◌};
 ghost use Rattle.records.specs.Rows.{tables};
 ghost use Rattle.batches.specs.Answers.{view_kind, view_count};

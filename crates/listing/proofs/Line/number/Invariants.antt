@@ -1,0 +1,14 @@
+-- `listing::Line::number` meets its contract, digit by digit as `Spelled` has it. Assumes nothing.
+use borrow.Author.Rules.{rules}
+use native.Mathlib.Omega.{arith}
+use Rattle.listing.proofs.Digits.{Spelled, begin, some_before, again, last_within, done}
+use Rattle.listing.proofs.Lines.{byte_onto}
+use Rattle.listing.specs.Writing.{written}
+use mathlib.Core.Path.{ap, ◌∙◌}
+use Rattle.listing.proofs.Line.number.Given as goal
+
+abbrev pub invariant-loop-rest : goal.invariant-loop-rest
+invariant-loop-rest l = Spelled l.n l.digits l.at l.rest
+
+abbrev pub decreases-loop-rest : goal.decreases-loop-rest
+decreases-loop-rest l = l.rest
