@@ -32,7 +32,7 @@ const WITHDRAWN: u8 = 41;
 
 // How many bytes the batch has and how many are given for it; or how many bytes are needed, counted from its first; or
 // why it is refused; or that the output is too short.
-#[derive(Drop)]
+#[derive(Clone, Copy)]
 pub enum Converted {
     Done { taken: usize, given: usize },
     MoreBytes(usize),

@@ -1,5 +1,7 @@
 // Oddrafisk for programs in other languages: numbers and slices alone. Every function answers every value of every
 // parameter; bindings/c/oddrafisk.h says what a caller that is not Rattle owes.
+#![tactic(auto)]
+
 mod asked;
 mod said;
 

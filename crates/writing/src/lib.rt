@@ -29,7 +29,7 @@ use records::Record;
 use sizes::{capped, number_size, span_size};
 
 // How many bytes are written.
-#[derive(Drop)]
+#[derive(Clone, Copy)]
 pub enum Written {
     Bytes(usize),
     Refused(WriteFault),
