@@ -18,7 +18,7 @@ use Rattle.reading.specs.declared.RecordsCheck.{RecordsCheck}
 use Rattle.reading.specs.declared.RecordsRead.{RecordsRead}
 use Rattle.reading.specs.declared.Passed.{Passed}
 use Rattle.records.specs.Judgement.{RecordSpans, record_at, run_at, records_at}
-use Rattle.records.specs.Rows.{Tables, roomy, with_rows, tables}
+use Rattle.records.specs.Rows.{Tables, roomy, with_rows}
 use Rattle.records.specs.Answers.{record_number_of}
 use Rattle.records.proofs.Ends.{records_run}
 use Rattle.reading.specs.Answers.{accepted, no_room, Counts, counts_of, view_check}

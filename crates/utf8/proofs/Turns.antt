@@ -54,8 +54,8 @@ begins : {rs : List Range} (s : List ℕ) (i : ℕ) → i < length s → Row (ge
 unfolding goes_on
 begins {rs} s i h r = step ∙ ap (λ k. goes_on rs (drop k s)) (sym (add-one i))
   where
-  step : goes_on [] (drop i s) ≡ goes_on rs (drop (suc i) s)
-  step = rw (drop-cons s i 0, row_after r, goes_on)
+    step : goes_on [] (drop i s) ≡ goes_on rs (drop (suc i) s)
+    step = rw (drop-cons s i 0, row_after r, goes_on)
 
 module _ {s : List ℕ} {i : ℕ} (h : i < length s) where
   pub begun : {rs : List Range} {n : ℕ} → Row (get_or s i 0) (some rs) → Judged rs s (i + 1) i n → Judged [] s i i n

@@ -1,1 +1,2 @@
 // Worked batches from end to end, as theorems: no code.
+#![tactic(auto)]

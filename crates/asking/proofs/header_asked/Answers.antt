@@ -1,5 +1,4 @@
 -- `asking::header_asked` meets its contract. Assumes nothing.
-use borrow.Author.Rules.{rules}
 use Rattle.asking.proofs.There.{no_header, header_given}
 use Rattle.asking.proofs.header_asked.Goals as goal
 

@@ -21,16 +21,16 @@ returns-in_default-value c = search (value_null, rules)
 pub overflow_add-end : goal.overflow_add-end
 overflow_add-end c =
     let inside : c.in-Bytes.key.start + c.in-Bytes.key.len ≤ length c.args.source.now =
-        key_inside c.args.headers.now c.args.source.now c.args.row (record { sfits = c.span_asked-arg-1.given }) (record { sfits = c.span_asked-arg-2-1.given }) _
-        c.span_asked.ensures _ _ c.in-Got.is c.in-Bytes.is
+    key_inside c.args.headers.now c.args.source.now c.args.row (record { sfits = c.span_asked-arg-1.given }) (record { sfits = c.span_asked-arg-2-1.given }) _
+    c.span_asked.ensures _ _ c.in-Got.is c.in-Bytes.is
     in
     omega (arith, inside)
 
 pub slice_bounds-is_utf8-end : goal.slice_bounds-is_utf8-end
 slice_bounds-is_utf8-end c =
     let inside : c.in-Bytes.key.start + c.in-Bytes.key.len ≤ length c.args.source.now =
-        key_inside c.args.headers.now c.args.source.now c.args.row (record { sfits = c.span_asked-arg-1.given }) (record { sfits = c.span_asked-arg-2-1.given }) _
-        c.span_asked.ensures _ _ c.in-Got.is c.in-Bytes.is
+    key_inside c.args.headers.now c.args.source.now c.args.row (record { sfits = c.span_asked-arg-1.given }) (record { sfits = c.span_asked-arg-2-1.given }) _
+    c.span_asked.ensures _ _ c.in-Got.is c.in-Bytes.is
     in
     omega (arith, inside)
 

@@ -1,5 +1,4 @@
 -- `asking::record_asked` meets its contract. Assumes nothing.
-use borrow.Author.Rules.{rules}
 use Rattle.asking.proofs.There.{no_record, head_given}
 use Rattle.asking.proofs.record_asked.Goals as goal
 

@@ -22,18 +22,18 @@ returns-then-offset_delta-gt2147483647 c = search (offset_above, rules)
 pub returns-in_default : goal.returns-in_default
 returns-in_default c =
     let fit : (let given = c.args in deltas_fit (cell 8 given.records.now given.row 0) (cell 8 given.records.now given.row 1)) ≡ true =
-        let small : Within32 (get_or c.args.records.now (c.args.row * 8 + 1) (pos 0)) (record { sfits = c.offset_delta-1.given }) = within_32 _ _ c.if-offset_delta-ltminus2147483648.false c.if-offset_delta-gt2147483647.false in
-        let given = c.args in
-        deltas_fit_lem given.records.now given.row (cell 8 given.records.now given.row 1) c.timestamp_delta-1.given small.is
+    let small : Within32 (get_or c.args.records.now (c.args.row * 8 + 1) (pos 0)) (record { sfits = c.offset_delta-1.given }) = within_32 _ _ c.if-offset_delta-ltminus2147483648.false c.if-offset_delta-gt2147483647.false in
+    let given = c.args in
+    deltas_fit_lem given.records.now given.row (cell 8 given.records.now given.row 1) c.timestamp_delta-1.given small.is
     in
     key_wrong _ _ _ _ fit (record { sfits = c.span_asked-arg-1.given }) (record { sfits = c.span_asked-arg-2-1.given }) _ c.span_asked.ensures c.in_default.is
 
 pub returns-in_default-span_asked : goal.returns-in_default-span_asked
 returns-in_default-span_asked c =
     let fit : (let given = c.args in deltas_fit (cell 8 given.records.now given.row 0) (cell 8 given.records.now given.row 1)) ≡ true =
-        let small : Within32 (get_or c.args.records.now (c.args.row * 8 + 1) (pos 0)) (record { sfits = c.offset_delta-1.given }) = within_32 _ _ c.if-offset_delta-ltminus2147483648.false c.if-offset_delta-gt2147483647.false in
-        let given = c.args in
-        deltas_fit_lem given.records.now given.row (cell 8 given.records.now given.row 1) c.timestamp_delta-1.given small.is
+    let small : Within32 (get_or c.args.records.now (c.args.row * 8 + 1) (pos 0)) (record { sfits = c.offset_delta-1.given }) = within_32 _ _ c.if-offset_delta-ltminus2147483648.false c.if-offset_delta-gt2147483647.false in
+    let given = c.args in
+    deltas_fit_lem given.records.now given.row (cell 8 given.records.now given.row 1) c.timestamp_delta-1.given small.is
     in
     value_wrong _ _ _ _ fit (record { sfits = c.span_asked-arg-1.given }) (record { sfits = c.span_asked-arg-2-1.given }) _ c.span_asked.ensures _
     c.in-Got.is (record { sfits = c.span_asked-arg-3-1.given }) (record { sfits = c.span_asked-arg-4-1.given }) _ c.span_asked-2.ensures c.in_default-span_asked.is
@@ -41,9 +41,9 @@ returns-in_default-span_asked c =
 pub returns-in_default-asked_count : goal.returns-in_default-asked_count
 returns-in_default-asked_count c =
     let fit : (let given = c.args in deltas_fit (cell 8 given.records.now given.row 0) (cell 8 given.records.now given.row 1)) ≡ true =
-        let small : Within32 (get_or c.args.records.now (c.args.row * 8 + 1) (pos 0)) (record { sfits = c.offset_delta-1.given }) = within_32 _ _ c.if-offset_delta-ltminus2147483648.false c.if-offset_delta-gt2147483647.false in
-        let given = c.args in
-        deltas_fit_lem given.records.now given.row (cell 8 given.records.now given.row 1) c.timestamp_delta-1.given small.is
+    let small : Within32 (get_or c.args.records.now (c.args.row * 8 + 1) (pos 0)) (record { sfits = c.offset_delta-1.given }) = within_32 _ _ c.if-offset_delta-ltminus2147483648.false c.if-offset_delta-gt2147483647.false in
+    let given = c.args in
+    deltas_fit_lem given.records.now given.row (cell 8 given.records.now given.row 1) c.timestamp_delta-1.given small.is
     in
     count_wrong _ _ _ _ fit (record { sfits = c.span_asked-arg-1.given }) (record { sfits = c.span_asked-arg-2-1.given }) _ c.span_asked.ensures _
     c.in-Got.is (record { sfits = c.span_asked-arg-3-1.given }) (record { sfits = c.span_asked-arg-4-1.given }) _ c.span_asked-2.ensures _ c.in-Got-span_asked.is
@@ -58,9 +58,9 @@ pub returns : goal.returns
 returns c =
     let small : Within32 (get_or c.args.records.now (c.args.row * 8 + 1) (pos 0)) (record { sfits = c.offset_delta-1.given }) = within_32 _ _ c.if-offset_delta-ltminus2147483648.false c.if-offset_delta-gt2147483647.false in
     let fit : (let given = c.args in deltas_fit (cell 8 given.records.now given.row 0) (cell 8 given.records.now given.row 1)) ≡ true =
-        let small : Within32 (get_or c.args.records.now (c.args.row * 8 + 1) (pos 0)) (record { sfits = c.offset_delta-1.given }) = within_32 _ _ c.if-offset_delta-ltminus2147483648.false c.if-offset_delta-gt2147483647.false in
-        let given = c.args in
-        deltas_fit_lem given.records.now given.row (cell 8 given.records.now given.row 1) c.timestamp_delta-1.given small.is
+    let small : Within32 (get_or c.args.records.now (c.args.row * 8 + 1) (pos 0)) (record { sfits = c.offset_delta-1.given }) = within_32 _ _ c.if-offset_delta-ltminus2147483648.false c.if-offset_delta-gt2147483647.false in
+    let given = c.args in
+    deltas_fit_lem given.records.now given.row (cell 8 given.records.now given.row 1) c.timestamp_delta-1.given small.is
     in
     record_got_lem _ _ _ _ fit (record { sfits = c.span_asked-arg-1.given }) (record { sfits = c.span_asked-arg-2-1.given }) _ c.span_asked.ensures _
     c.in-Got.is (record { sfits = c.span_asked-arg-3-1.given }) (record { sfits = c.span_asked-arg-4-1.given }) _ c.span_asked-2.ensures _ c.in-Got-span_asked.is

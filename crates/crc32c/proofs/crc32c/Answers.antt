@@ -1,5 +1,4 @@
 -- `crc32c::crc32c` meets its contract: nothing came before. Assumes nothing.
-use borrow.Author.Rules.{rules}
 use Rattle.crc32c.proofs.Joined.{first_part}
 use Rattle.crc32c.proofs.crc32c.Goals as goal
 

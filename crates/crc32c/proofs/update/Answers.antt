@@ -1,6 +1,5 @@
 -- `crc32c::update` meets its contract: short bytes are divided as they stand, and long ones by what they fold into.
 -- Assumes nothing.
-use borrow.Author.Rules.{rules}
 use Rattle.crc32c.proofs.Joined.{complemented, folded}
 use Rattle.crc32c.proofs.update.Goals as goal
 

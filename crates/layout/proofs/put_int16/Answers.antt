@@ -1,5 +1,4 @@
 -- `layout::put_int16` meets its contract. Assumes nothing.
-use borrow.Author.Rules.{rules}
 use Rattle.numbers.proofs.Pens.{known_put}
 use Rattle.layout.proofs.put_int16.Goals as goal
 

@@ -1,5 +1,4 @@
 -- `numbers::big_endian_1` meets its contract: its bytes are those of the definition. Assumes nothing.
-use borrow.Author.Rules.{rules}
 use native.Mathlib.Nat.{div-one}
 use Rattle.numbers.specs.Format.{big_endian}
 use Rattle.numbers.proofs.big_endian_1.Goals as goal

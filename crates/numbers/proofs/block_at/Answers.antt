@@ -1,8 +1,7 @@
 -- `numbers::block_at` meets its contract: after i bytes these are copied. Assumes nothing.
-use Prim.Native.Nat.{◌-◌, ◌≤◌}
-use mathlib.Core.Path.{◌≡◌, refl}
+use mathlib.Core.Path.{refl}
 use native.Mathlib.Omega.{arith}
-use lib.ListN.{length, take, drop, length-set}
+use lib.ListN.{length-set}
 use Rattle.numbers.proofs.Blocks.{block_turn, block_done}
 use Rattle.numbers.proofs.block_at.Goals as goal
 

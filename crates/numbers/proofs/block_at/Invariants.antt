@@ -1,9 +1,7 @@
 -- `numbers::block_at` meets its contract: after i bytes these are copied. Assumes nothing.
 use Prim.Native.Nat.{◌-◌, ◌≤◌}
-use mathlib.Core.Path.{◌≡◌, refl}
-use native.Mathlib.Omega.{arith}
-use lib.ListN.{length, take, drop, length-set}
-use Rattle.numbers.proofs.Blocks.{block_turn, block_done}
+use mathlib.Core.Path.{◌≡◌}
+use lib.ListN.{length, take, drop}
 use Rattle.numbers.proofs.block_at.Given as goal
 
 abbrev pub invariant-loop-i : goal.invariant-loop-i

@@ -1,5 +1,4 @@
 -- `numbers::fewest_bytes` meets its contract, by how many bytes the code has. Assumes nothing.
-use borrow.Author.Rules.{rules}
 use Rattle.numbers.proofs.Few.{one_byte, two_bytes, three_bytes, four_bytes}
 use Rattle.numbers.proofs.fewest_bytes.Goals as goal
 

@@ -1,6 +1,6 @@
 -- `numbers::many_bytes` meets its contract, turn by turn as `Written` has it. Assumes nothing.
 use native.Mathlib.Omega.{arith}
-use Rattle.numbers.proofs.Written.{Written, begin, again, done}
+use Rattle.numbers.proofs.Written.{begin, again, done}
 use Rattle.numbers.proofs.many_bytes.Goals as goal
 
 pub loop-x-init : goal.loop-x-init

@@ -1,6 +1,5 @@
 -- `numbers::many_bytes` meets its contract, turn by turn as `Written` has it. Assumes nothing.
-use native.Mathlib.Omega.{arith}
-use Rattle.numbers.proofs.Written.{Written, begin, again, done}
+use Rattle.numbers.proofs.Written.{Written}
 use Rattle.numbers.proofs.many_bytes.Given as goal
 
 abbrev pub invariant-loop-x : goal.invariant-loop-x

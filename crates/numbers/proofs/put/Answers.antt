@@ -1,5 +1,4 @@
 -- `numbers::put` meets its contract: as many bytes are put as there is room for. Assumes nothing.
-use borrow.Author.Rules.{rules}
 use native.Mathlib.Omega.{arith}
 use lib.ListN.{length-take}
 use Rattle.numbers.proofs.Pens.{put_past, put_done}

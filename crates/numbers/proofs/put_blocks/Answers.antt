@@ -1,10 +1,7 @@
 -- `numbers::put_blocks` meets its contract: the first i bytes are stored. Assumes nothing.
 use borrow.Author.Rules.{rules}
-use Prim.Native.Nat.{◌+◌, ◌-◌, ◌≤◌}
-use mathlib.Core.Path.{◌≡◌, refl}
+use mathlib.Core.Path.{refl}
 use native.Mathlib.Omega.{arith}
-use lib.ListN.{length, take}
-use lib.Seq.{sets}
 use Rattle.numbers.proofs.Blocks.{blocks_turn, blocks_done}
 use Rattle.numbers.proofs.put_blocks.Goals as goal
 

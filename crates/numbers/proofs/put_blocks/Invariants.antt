@@ -1,11 +1,8 @@
 -- `numbers::put_blocks` meets its contract: the first i bytes are stored. Assumes nothing.
-use borrow.Author.Rules.{rules}
 use Prim.Native.Nat.{◌+◌, ◌-◌, ◌≤◌}
-use mathlib.Core.Path.{◌≡◌, refl}
-use native.Mathlib.Omega.{arith}
+use mathlib.Core.Path.{◌≡◌}
 use lib.ListN.{length, take}
 use lib.Seq.{sets}
-use Rattle.numbers.proofs.Blocks.{blocks_turn, blocks_done}
 use Rattle.numbers.proofs.put_blocks.Given as goal
 
 abbrev pub invariant-loop-i : goal.invariant-loop-i

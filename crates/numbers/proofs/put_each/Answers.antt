@@ -1,10 +1,8 @@
 -- `numbers::put_each` meets its contract: after i bytes what is left of them is still to be stored. Assumes nothing.
-use Prim.Native.Nat.{◌+◌, ◌-◌, ◌≤◌}
-use mathlib.Core.Path.{◌≡◌, refl, ◌∙◌}
+use mathlib.Core.Path.{refl, ◌∙◌}
 use native.Mathlib.Omega.{arith}
 use native.Mathlib.Nat.{add-zero}
-use lib.ListN.{length, drop, length-set}
-use lib.Seq.{sets}
+use lib.ListN.{length-set}
 use Rattle.numbers.proofs.Pens.{sets_turn, sets_end}
 use Rattle.numbers.proofs.put_each.Goals as goal
 

@@ -1,6 +1,6 @@
 -- `primitives::decode_zigzag_64` meets its contract: the masked half is the number in two's complement. Assumes
 -- nothing.
-use Rattle.std.proofs.Common.{refl, ◌∙◌, arith, w64, rules}
+use Rattle.std.proofs.Common.{refl, ◌∙◌, arith, w64}
 use mir.ValLaws.{to_z-of_z}
 use Rattle.primitives.proofs.Mask.{unmasked, masked_below}
 use Rattle.primitives.proofs.decode_zigzag_64.Goals as goal

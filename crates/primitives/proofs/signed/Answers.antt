@@ -1,6 +1,6 @@
 -- `primitives::signed` meets its contract: below the half the number is v itself, and from there on it is
 -- -1 less what is missing to the largest. Assumes nothing.
-use Rattle.std.proofs.Common.{◌-◌, negsuc, sym, ap, ◌∙◌, arith, w64, rules}
+use Rattle.std.proofs.Common.{◌-◌, negsuc, sym, ap, ◌∙◌, arith, w64}
 use mir.ValLaws.{to_z_pos}
 use Rattle.numbers.proofs.Signs.{less_fits, less_back}
 use Rattle.primitives.proofs.Integers.{signed_low, signed_high}

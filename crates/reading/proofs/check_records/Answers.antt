@@ -1,5 +1,4 @@
 -- `reading::check_records` meets its contract. Assumes nothing.
-use borrow.Author.Rules.{rules}
 use Rattle.reading.proofs.Whole.{check_left, check_past, check_got, check_refused}
 use Rattle.reading.proofs.check_records.Goals as goal
 

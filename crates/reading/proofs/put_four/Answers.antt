@@ -1,5 +1,4 @@
 -- `reading::put_four` meets its contract. Assumes nothing.
-use borrow.Author.Rules.{rules}
 use mir.Syntax.{w64}
 use mir.ValLaws.{to_z-of_z}
 use Prim.Native.Nat.{ℕ, suc, ◌+◌, ◌*◌}

@@ -1,5 +1,4 @@
 -- `reading::read_records` meets its contract. Assumes nothing.
-use borrow.Author.Rules.{rules}
 use lib.ListN.{length}
 use native.Mathlib.Omega.{arith}
 use Rattle.reading.proofs.Whole.{first_fits, read_no_room, read_got, read_refused_lem}

@@ -1,13 +1,6 @@
 -- `reading::walk` meets its contract. Assumes nothing.
-use borrow.Author.Rules.{rules}
-use Rattle.reading.proofs.Turns.{walk_on, start}
-use Rattle.records.specs.Rows.{tables}
-use Rattle.reading.specs.Walk.{walked_records}
-use Rattle.records.specs.Judgement.{run_at}
-use Rattle.primitives.specs.Step.{map_step}
-use lib.ListN.{length}
-use Prim.Native.Nat.{◌+◌, ◌*◌, ◌≤◌}
-use mathlib.Core.Path.{◌≡◌, refl, ◌∙◌}
+use Rattle.reading.proofs.Turns.{start}
+use mathlib.Core.Path.{refl, ◌∙◌}
 use native.Mathlib.Omega.{arith}
 use Rattle.reading.proofs.WalkSteps.{walked_moves, run_stop, run_turn, run_end}
 use Rattle.reading.proofs.walk.Goals as goal

@@ -1,15 +1,12 @@
 -- `reading::walk` meets its contract. Assumes nothing.
-use borrow.Author.Rules.{rules}
-use Rattle.reading.proofs.Turns.{walk_on, start}
+use Rattle.reading.proofs.Turns.{walk_on}
 use Rattle.records.specs.Rows.{tables}
 use Rattle.reading.specs.Walk.{walked_records}
 use Rattle.records.specs.Judgement.{run_at}
 use Rattle.primitives.specs.Step.{map_step}
 use lib.ListN.{length}
 use Prim.Native.Nat.{◌+◌, ◌*◌, ◌≤◌}
-use mathlib.Core.Path.{◌≡◌, refl, ◌∙◌}
-use native.Mathlib.Omega.{arith}
-use Rattle.reading.proofs.WalkSteps.{walked_moves, run_stop, run_turn, run_end}
+use mathlib.Core.Path.{◌≡◌}
 use Rattle.reading.proofs.walk.Given as goal
 
 abbrev pub invariant-loop-left : goal.invariant-loop-left

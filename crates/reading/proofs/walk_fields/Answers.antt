@@ -1,5 +1,4 @@
 -- `reading::walk_fields` meets its contract. Assumes nothing.
-use borrow.Author.Rules.{rules}
 use Rattle.reading.proofs.WalkSteps.{fields_got, fields_no_headers, fields_no_head}
 use Rattle.reading.proofs.walk_fields.Goals as goal
 

@@ -1,11 +1,5 @@
 -- `reading::walk_headers` meets its contract. Assumes nothing.
-use borrow.Author.Rules.{rules}
-use Rattle.reading.specs.Walk.{put_headers}
-use Rattle.records.specs.Judgement.{header_at}
-use Rattle.primitives.specs.Step.{map_step, times}
-use lib.ListN.{length}
-use Prim.Native.Nat.{◌+◌, ◌≤◌}
-use mathlib.Core.Path.{◌≡◌, refl, ◌∙◌}
+use mathlib.Core.Path.{refl, ◌∙◌}
 use native.Mathlib.Omega.{arith}
 use Rattle.reading.proofs.WalkSteps.{headers_stop, headers_turn, headers_end}
 use Rattle.reading.proofs.walk_headers.Goals as goal

@@ -1,5 +1,4 @@
 -- `reading::walk_record` meets its contract. Assumes nothing.
-use borrow.Author.Rules.{rules}
 use lib.ListN.{length-take}
 use native.Mathlib.Omega.{arith}
 use Rattle.reading.proofs.WalkSteps.{length_within, record_got_lem, record_left, record_refused, record_no_length}

@@ -1,5 +1,4 @@
 -- `records::read_count` meets its contract. Assumes nothing.
-use borrow.Author.Rules.{rules}
 use Rattle.records.proofs.FieldSteps.{count_got, count_null, count_refused}
 use Rattle.records.proofs.read_count.Goals as goal
 

@@ -1,5 +1,4 @@
 -- `records::read_key` meets its contract. Assumes nothing.
-use borrow.Author.Rules.{rules}
 use Rattle.records.proofs.FieldSteps.{key_got, key_not_utf8, key_null, key_refused}
 use native.Mathlib.Omega.{arith}
 use Rattle.records.proofs.FieldSteps.{place_ends}

@@ -1,5 +1,4 @@
 -- `records::read_place` meets its contract. Assumes nothing.
-use borrow.Author.Rules.{rules}
 use native.Mathlib.Omega.{arith}
 use Rattle.records.proofs.FieldSteps.{place_ends}
 use Rattle.records.proofs.FieldSteps.{place_got, place_null, place_refused}

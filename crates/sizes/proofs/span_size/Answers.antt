@@ -1,5 +1,4 @@
 -- `sizes::span_size` meets its contract. Assumes nothing.
-use borrow.Author.Rules.{rules}
 use Rattle.sizes.proofs.Steps.{span_short, span_stops, span_got}
 use Rattle.sizes.proofs.span_size.Goals as goal
 

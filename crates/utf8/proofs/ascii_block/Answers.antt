@@ -1,10 +1,6 @@
 -- `utf8::ascii_block` meets its contract: if the greatest of k bytes is ASCII, each of them is. Assumes nothing.
-use Prim.Native.Nat.{◌+◌, ◌-◌, ◌≤◌, ◌<◌}
-use mathlib.Core.List.{[]}
 use native.Mathlib.Omega.{arith}
-use borrow.Author.Rules.{rules}
 use borrow.Author.Tests.{ltb-true}
-use Rattle.utf8.specs.Steps.{Passed}
 use Rattle.utf8.proofs.Turns.{begin, moved, ascii}
 use Rattle.utf8.proofs.ascii_block.Goals as goal
 

@@ -1,14 +1,8 @@
 -- `utf8::ascii_blocks` meets its contract: what stands from i to the end so far is ASCII. Assumes nothing.
 use Prim.Native.Nat.{◌-◌, ◌≤◌}
 use mathlib.Core.List.{[]}
-use native.Mathlib.Omega.{arith}
-use borrow.Author.Rules.{rules}
-use borrow.Author.Tests.{not-false}
 use lib.ListN.{length}
 use Rattle.utf8.specs.Steps.{Passed}
-use Rattle.utf8.proofs.Turns.{begin, further}
-use mathlib.Core.Path.{ap}
-use mathlib.Core.Bool.{not}
 use Rattle.utf8.proofs.ascii_blocks.Given as goal
 
 abbrev pub invariant-loop-end : goal.invariant-loop-end

@@ -1,12 +1,10 @@
 -- `utf8::ascii_end` meets its contract: what stands from i to the end so far is ASCII, and the byte at i is, so the end
 -- is behind it. Assumes nothing.
-use Prim.Native.Nat.{ℕ, ◌-◌, ◌≤◌, ◌<◌}
+use Prim.Native.Nat.{ℕ, ◌≤◌, ◌<◌}
 use mathlib.Core.Path.{◌≡◌}
-use mathlib.Core.List.{List, []}
+use mathlib.Core.List.{List}
 use native.Mathlib.Omega.{arith}
-use borrow.Author.Rules.{rules}
-use lib.ListN.{length, get_or}
-use Rattle.utf8.specs.Steps.{Passed}
+use lib.ListN.{get_or}
 use Rattle.utf8.proofs.Turns.{ascii}
 use Rattle.utf8.proofs.ascii_end.Goals as goal
 

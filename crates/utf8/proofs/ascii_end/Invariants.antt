@@ -1,13 +1,9 @@
 -- `utf8::ascii_end` meets its contract: what stands from i to the end so far is ASCII, and the byte at i is, so the end
 -- is behind it. Assumes nothing.
-use Prim.Native.Nat.{ℕ, ◌-◌, ◌≤◌, ◌<◌}
-use mathlib.Core.Path.{◌≡◌}
-use mathlib.Core.List.{List, []}
-use native.Mathlib.Omega.{arith}
-use borrow.Author.Rules.{rules}
-use lib.ListN.{length, get_or}
+use Prim.Native.Nat.{◌-◌, ◌≤◌}
+use mathlib.Core.List.{[]}
+use lib.ListN.{length}
 use Rattle.utf8.specs.Steps.{Passed}
-use Rattle.utf8.proofs.Turns.{ascii}
 use Rattle.utf8.proofs.ascii_end.Given as goal
 
 abbrev pub invariant-loop-end : goal.invariant-loop-end

@@ -1,10 +1,6 @@
 -- `utf8::is_utf8` meets its contract: what stands before i are whole characters. Assumes nothing.
-use Prim.Native.Nat.{◌-◌, ◌≤◌}
-use mathlib.Core.List.{[]}
 use native.Mathlib.Omega.{arith}
 use borrow.Author.Rules.{rules}
-use lib.ListN.{length}
-use Rattle.utf8.specs.Steps.{Passed}
 use Rattle.utf8.proofs.Turns.{begin, further, on, off, at_end}
 use Rattle.utf8.proofs.is_utf8.Goals as goal
 

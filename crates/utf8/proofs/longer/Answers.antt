@@ -1,6 +1,5 @@
 -- `utf8::longer` meets its contract: the first octet is in the row that each arm names, or in none. Assumes nothing.
 use native.Mathlib.Omega.{arith}
-use borrow.Author.Rules.{rules}
 use Rattle.utf8.proofs.Rows.{between, row_2, row_3_E0, row_3_E1, row_3_ED, row_3_EE, row_4_F0, row_4_F1, row_4_F4, beyond}
 use Rattle.utf8.proofs.Turns.{begun, no_row}
 use Rattle.utf8.proofs.longer.Goals as goal

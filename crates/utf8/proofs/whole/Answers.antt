@@ -4,10 +4,9 @@ use Prim.Native.Nat.{ℕ, suc, ◌+◌, ◌-◌, ◌≤◌, ◌<◌}
 use mathlib.Core.Path.{◌≡◌}
 use mathlib.Core.List.{List, [], ◌∷◌}
 use native.Mathlib.Omega.{arith}
-use borrow.Author.Rules.{rules}
 use lib.ListN.{replicate, length-replicate}
 use Rattle.utf8.specs.Judgement.{Range, tail}
-use Rattle.utf8.specs.Steps.{Passed, following}
+use Rattle.utf8.specs.Steps.{Passed}
 use Rattle.utf8.proofs.Turns.{begin, moved, pass, fail, cut_off, whole}
 use mathlib.Core.Path.{ap}
 use mathlib.Core.Bool.{not}

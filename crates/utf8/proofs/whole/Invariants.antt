@@ -1,16 +1,9 @@
 -- `utf8::whole` meets its contract: the octets before i + k lie in their ranges, and n - k tails are left to be looked
 -- for. Assumes nothing.
-use Prim.Native.Nat.{ℕ, suc, ◌+◌, ◌-◌, ◌≤◌, ◌<◌}
-use mathlib.Core.Path.{◌≡◌}
-use mathlib.Core.List.{List, [], ◌∷◌}
-use native.Mathlib.Omega.{arith}
-use borrow.Author.Rules.{rules}
-use lib.ListN.{replicate, length-replicate}
-use Rattle.utf8.specs.Judgement.{Range, tail}
+use Prim.Native.Nat.{◌+◌, ◌-◌, ◌≤◌}
+use lib.ListN.{replicate}
+use Rattle.utf8.specs.Judgement.{tail}
 use Rattle.utf8.specs.Steps.{Passed, following}
-use Rattle.utf8.proofs.Turns.{begin, moved, pass, fail, cut_off, whole}
-use mathlib.Core.Path.{ap}
-use mathlib.Core.Bool.{not}
 use Rattle.utf8.proofs.whole.Given as goal
 
 abbrev pub invariant-loop-k : goal.invariant-loop-k

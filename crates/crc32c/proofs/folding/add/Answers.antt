@@ -1,13 +1,9 @@
 -- `crc32c::folding::add` meets its contract: each turn stores one byte of the sum. Assumes nothing.
-use Prim.Native.Nat.{◌+◌, ◌-◌}
 use native.Mathlib.Omega.{arith}
 use mathlib.Core.Path.{refl}
 use lib.Dec.{lit≤}
-use lib.ListN.{get_or, replicate}
-use borrow.Author.Rules.{rules}
-use Rattle.crc32c.specs.Folding.{front}
 use Rattle.crc32c.proofs.Folds.{front_is}
-use Rattle.crc32c.proofs.Stored.{Stored, stored_none, stored_more}
+use Rattle.crc32c.proofs.Stored.{stored_none, stored_more}
 use Rattle.crc32c.proofs.folding.add.Goals as goal
 
 pub loop-j-init : goal.loop-j-init

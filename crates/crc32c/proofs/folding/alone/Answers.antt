@@ -1,11 +1,9 @@
 -- `crc32c::folding::alone` meets its contract: each turn stores one byte of the window. Assumes nothing.
-use Prim.Native.Nat.{◌+◌, ◌-◌}
+use Prim.Native.Nat.{◌+◌}
 use native.Mathlib.Omega.{arith}
 use mathlib.Core.Path.{refl, ◌∙◌}
 use lib.Dec.{lit≤}
-use lib.ListN.{get_or, replicate}
-use borrow.Author.Rules.{rules}
-use Rattle.crc32c.proofs.Stored.{Stored, stored_none, stored_more, stored_bytes, stored_window, zeros_at, zeros_bytes}
+use Rattle.crc32c.proofs.Stored.{stored_none, stored_more, stored_bytes, stored_window, zeros_at, zeros_bytes}
 use Rattle.crc32c.proofs.folding.alone.Goals as goal
 
 pub loop-j-init : goal.loop-j-init

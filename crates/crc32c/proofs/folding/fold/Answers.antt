@@ -1,9 +1,8 @@
 -- `crc32c::folding::fold` meets its contract: every turn leaves what was left, from the start to the end. Assumes
 -- nothing.
-use Prim.Native.Nat.{◌-◌}
 use native.Mathlib.Omega.{arith}
 use borrow.Author.Rules.{rules}
-use Rattle.crc32c.proofs.Kept.{Kept, kept_starts, kept_more, kept_ends}
+use Rattle.crc32c.proofs.Kept.{kept_starts, kept_more, kept_ends}
 use Rattle.crc32c.proofs.folding.fold.Goals as goal
 
 pub loop-i-init : goal.loop-i-init

@@ -1,9 +1,7 @@
 -- `crc32c::folding::fold` meets its contract: every turn leaves what was left, from the start to the end. Assumes
 -- nothing.
 use Prim.Native.Nat.{◌-◌}
-use native.Mathlib.Omega.{arith}
-use borrow.Author.Rules.{rules}
-use Rattle.crc32c.proofs.Kept.{Kept, kept_starts, kept_more, kept_ends}
+use Rattle.crc32c.proofs.Kept.{Kept}
 use Rattle.crc32c.proofs.folding.fold.Given as goal
 
 abbrev pub invariant-loop-i : goal.invariant-loop-i

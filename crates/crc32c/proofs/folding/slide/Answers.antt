@@ -1,10 +1,8 @@
 -- `crc32c::folding::slide` meets its contract: each turn stores one byte of the window. Assumes nothing.
-use Prim.Native.Nat.{◌+◌, ◌-◌}
+use Prim.Native.Nat.{◌+◌}
 use native.Mathlib.Omega.{arith}
 use lib.Dec.{lit≤}
-use lib.ListN.{get_or}
-use borrow.Author.Rules.{rules}
-use Rattle.crc32c.proofs.Stored.{Stored, stored_none, stored_more, stored_bytes, stored_window}
+use Rattle.crc32c.proofs.Stored.{stored_none, stored_more, stored_bytes, stored_window}
 use Rattle.crc32c.proofs.folding.slide.Goals as goal
 
 pub loop-j-init : goal.loop-j-init

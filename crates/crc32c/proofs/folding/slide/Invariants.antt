@@ -1,10 +1,7 @@
 -- `crc32c::folding::slide` meets its contract: each turn stores one byte of the window. Assumes nothing.
 use Prim.Native.Nat.{◌+◌, ◌-◌}
-use native.Mathlib.Omega.{arith}
-use lib.Dec.{lit≤}
 use lib.ListN.{get_or}
-use borrow.Author.Rules.{rules}
-use Rattle.crc32c.proofs.Stored.{Stored, stored_none, stored_more, stored_bytes, stored_window}
+use Rattle.crc32c.proofs.Stored.{Stored}
 use Rattle.crc32c.proofs.folding.slide.Given as goal
 
 abbrev pub invariant-loop-j : goal.invariant-loop-j

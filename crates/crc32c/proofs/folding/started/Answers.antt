@@ -4,7 +4,6 @@ use native.Mathlib.Omega.{arith}
 use mathlib.Core.Path.{refl}
 use lib.Dec.{lit<, lit≤}
 use lib.ListN.{set, replicate}
-use borrow.Author.Rules.{rules}
 use Rattle.crc32c.proofs.Stored.{Stored, stored_none, stored_more, stored_bytes, stored_number, zeros_bytes, byte, byte_below}
 use Rattle.crc32c.proofs.folding.started.Goals as goal
 

@@ -1,9 +1,6 @@
 -- `crc32c::folding::take_off` meets its contract: each turn takes one byte off. Assumes nothing.
 use Prim.Native.Nat.{◌-◌}
-use native.Mathlib.Omega.{arith}
-use borrow.Author.Rules.{rules}
-use Rattle.crc32c.proofs.Folds.{front_is}
-use Rattle.crc32c.proofs.Kept.{Taken, taken_none, taken_more, taken_all}
+use Rattle.crc32c.proofs.Kept.{Taken}
 use Rattle.crc32c.proofs.folding.take_off.Given as goal
 
 abbrev pub invariant-loop-j : goal.invariant-loop-j

@@ -1,11 +1,8 @@
 -- `crc32c::table::by_eights` meets its contract: what is left of the bytes takes the register to where all of them take
 -- it. Assumes nothing.
-use Prim.Native.Nat.{◌-◌, ◌≤◌, ◌%◌}
 use native.Mathlib.Omega.{arith}
-use mathlib.Core.Path.{◌≡◌, refl}
+use mathlib.Core.Path.{refl}
 use borrow.Author.Rules.{rules}
-use lib.ListN.{length, drop}
-use Rattle.crc32c.specs.Crc.{over, castagnoli}
 use Rattle.crc32c.proofs.Halves.{turn_of_eight, ended}
 use Rattle.crc32c.proofs.table.by_eights.Goals as goal
 

@@ -1,12 +1,9 @@
 -- `crc32c::table::by_ones` meets its contract: what is left of the bytes takes the register to where all of them take
 -- it. Assumes nothing.
 use Prim.Native.Nat.{◌-◌, ◌≤◌}
-use native.Mathlib.Omega.{arith}
-use mathlib.Core.Path.{◌≡◌, refl}
-use borrow.Author.Rules.{rules}
+use mathlib.Core.Path.{◌≡◌}
 use lib.ListN.{length, drop}
 use Rattle.crc32c.specs.Crc.{over, castagnoli}
-use Rattle.crc32c.proofs.Halves.{turn_of_one, ended}
 use Rattle.crc32c.proofs.table.by_ones.Given as goal
 
 abbrev pub invariant-loop-i : goal.invariant-loop-i

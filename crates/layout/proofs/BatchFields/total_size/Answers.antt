@@ -1,5 +1,4 @@
 -- `layout::BatchFields::total_size` meets its contract. Assumes nothing.
-use borrow.Author.Rules.{rules}
 use lib.Dec.{lit≤}
 use Rattle.layout.proofs.Sums.{total_widens, total_fits, total_back}
 use Rattle.layout.proofs.BatchFields.total_size.Goals as goal

@@ -1,6 +1,6 @@
 -- `primitives::Cursor::read_code` meets its contract, turn by turn as `Turns` has it. Assumes nothing.
-use Rattle.std.proofs.Common.{◌-◌, ◌<◌, arith, rules}
-use Rattle.primitives.proofs.Turns.{Reading, begin, past, turn_room, turn_fits, ends, again, last_fits, lasts, beyond}
+use Rattle.std.proofs.Common.{◌-◌, ◌<◌, arith}
+use Rattle.primitives.proofs.Turns.{begin, past, turn_room, turn_fits, ends, again, last_fits, lasts, beyond}
 use Rattle.primitives.proofs.Cursor.read_code.Goals as goal
 
 pub loop-k-init : goal.loop-k-init

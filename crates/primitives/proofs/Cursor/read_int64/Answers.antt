@@ -1,5 +1,5 @@
 -- `primitives::Cursor::read_int64` meets its contract. Assumes nothing.
-use Rattle.std.proofs.Common.{w64, rules}
+use Rattle.std.proofs.Common.{w64}
 use Rattle.primitives.proofs.Fields.{widest_got, integer_refused}
 use Rattle.primitives.proofs.Cursor.read_int64.Goals as goal
 

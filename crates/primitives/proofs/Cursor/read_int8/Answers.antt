@@ -1,5 +1,5 @@
 -- `primitives::Cursor::read_int8` meets its contract. Assumes nothing.
-use Rattle.std.proofs.Common.{lit≤, w8, rules}
+use Rattle.std.proofs.Common.{lit≤, w8}
 use Rattle.primitives.proofs.Fields.{halved, narrowed, integer_got, integer_refused}
 use Rattle.primitives.proofs.Cursor.read_int8.Goals as goal
 

@@ -1,5 +1,4 @@
 -- `primitives::Cursor::read_span` meets its contract. Assumes nothing.
-use Rattle.std.proofs.Common.{rules}
 use Rattle.primitives.proofs.Lengths.{span_longer, span_past, span_got, span_null, span_refused}
 use Rattle.primitives.proofs.Cursor.read_span.Goals as goal
 

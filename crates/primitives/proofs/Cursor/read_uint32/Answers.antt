@@ -1,5 +1,4 @@
 -- `primitives::Cursor::read_uint32` meets its contract. Assumes nothing.
-use Rattle.std.proofs.Common.{rules}
 use Rattle.primitives.proofs.Fields.{unsigned_below, unsigned_got, unsigned_refused}
 use Rattle.primitives.proofs.Cursor.read_uint32.Goals as goal
 

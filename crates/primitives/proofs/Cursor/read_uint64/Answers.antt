@@ -1,5 +1,4 @@
 -- `primitives::Cursor::read_uint64` meets its contract. Assumes nothing.
-use Rattle.std.proofs.Common.{rules}
 use Rattle.primitives.proofs.Fields.{unsigned_got, unsigned_refused}
 use Rattle.primitives.proofs.Cursor.read_uint64.Goals as goal
 

@@ -1,6 +1,6 @@
 -- `primitives::Cursor::read_unsigned` meets its contract: after i bytes v is their number, which fits since they are at
 -- most eight. Assumes nothing.
-use Rattle.std.proofs.Common.{◌≡◌, ℕ, ◌+◌, ◌-◌, ◌*◌, ◌^◌, ◌<◌, ◌≤◌, List, get_or, sym, refl, ap, ◌∙◌, add-one, arith}
+use Rattle.std.proofs.Common.{◌≡◌, ℕ, ◌+◌, ◌*◌, ◌^◌, ◌<◌, ◌≤◌, List, get_or, sym, refl, ap, ◌∙◌, add-one, arith}
 use native.Mathlib.Nat.{pow-le-pow_right, pow-succ'}
 use Rattle.primitives.specs.Reading.{big}
 use Rattle.primitives.specs.Step.{ok}
@@ -36,9 +36,9 @@ wide-b-requires c = tt
 pub overflow_mul-v : goal.overflow_mul-v
 overflow_mul-v c =
     let byte : c.wide-b.result < 256 =
-        let i = c.loop-i.i in
-        let a = c.args in
-        omega (arith, c.wide-b.ensures, c.shared_slice_known-in-loop-i-1.given (a.self.at + i))
+    let i = c.loop-i.i in
+    let a = c.args in
+    omega (arith, c.wide-b.ensures, c.shared_slice_known-in-loop-i-1.given (a.self.at + i))
     in
     let holds : c.loop-i.v < 256 ^ 7 = room _ _ _ _ _ c.loop-i.invariant c.loop-i-test.true c.requires in
     omega (arith, byte, holds)
@@ -46,9 +46,9 @@ overflow_mul-v c =
 pub overflow_add-v : goal.overflow_add-v
 overflow_add-v c =
     let byte : c.wide-b.result < 256 =
-        let i = c.loop-i.i in
-        let a = c.args in
-        omega (arith, c.wide-b.ensures, c.shared_slice_known-in-loop-i-1.given (a.self.at + i))
+    let i = c.loop-i.i in
+    let a = c.args in
+    omega (arith, c.wide-b.ensures, c.shared_slice_known-in-loop-i-1.given (a.self.at + i))
     in
     let holds : c.loop-i.v < 256 ^ 7 = room _ _ _ _ _ c.loop-i.invariant c.loop-i-test.true c.requires in
     omega (arith, byte, holds)
@@ -56,9 +56,9 @@ overflow_add-v c =
 pub loop-i-preserved : goal.loop-i-preserved
 loop-i-preserved c =
     let byte : c.wide-b.result < 256 =
-        let i = c.loop-i.i in
-        let a = c.args in
-        omega (arith, c.wide-b.ensures, c.shared_slice_known-in-loop-i-1.given (a.self.at + i))
+    let i = c.loop-i.i in
+    let a = c.args in
+    omega (arith, c.wide-b.ensures, c.shared_slice_known-in-loop-i-1.given (a.self.at + i))
     in
     one_more _ _ _ _ _ _ c.loop-i.invariant c.loop-i-test.true byte c.wide-b.ensures
 

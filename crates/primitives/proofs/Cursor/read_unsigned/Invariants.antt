@@ -1,10 +1,7 @@
 -- `primitives::Cursor::read_unsigned` meets its contract: after i bytes v is their number, which fits since they are at
 -- most eight. Assumes nothing.
-use Rattle.std.proofs.Common.{◌≡◌, ℕ, ◌+◌, ◌-◌, ◌*◌, ◌^◌, ◌<◌, ◌≤◌, List, get_or, sym, refl, ap, ◌∙◌, add-one, arith}
-use native.Mathlib.Nat.{pow-le-pow_right, pow-succ'}
+use Rattle.std.proofs.Common.{◌≡◌, ℕ, ◌-◌, ◌^◌, ◌<◌, ◌≤◌, List}
 use Rattle.primitives.specs.Reading.{big}
-use Rattle.primitives.specs.Step.{ok}
-use Rattle.primitives.proofs.Integers.{unsigned_in_lem, unsigned_out}
 use Rattle.primitives.proofs.Cursor.read_unsigned.Given as goal
 
 pub record Read (s : List ℕ) (n at v i : ℕ) : Type 0 where

@@ -1,5 +1,4 @@
 -- `primitives::Cursor::read_varint` meets its contract. Assumes nothing.
-use Rattle.std.proofs.Common.{rules}
 use Rattle.primitives.proofs.Numbers.{code_fits, number_got, number_refused}
 use Rattle.primitives.proofs.Cursor.read_varint.Goals as goal
 

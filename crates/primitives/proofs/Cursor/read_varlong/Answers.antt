@@ -1,5 +1,4 @@
 -- `primitives::Cursor::read_varlong` meets its contract. Assumes nothing.
-use Rattle.std.proofs.Common.{rules}
 use Rattle.primitives.proofs.Numbers.{number_got, number_refused}
 use Rattle.primitives.proofs.Cursor.read_varlong.Goals as goal
 

@@ -1,5 +1,4 @@
 -- `records::Record::read` meets its contract. Assumes nothing.
-use borrow.Author.Rules.{rules}
 use Rattle.records.proofs.FieldSteps.{heading_got, no_count, no_value, no_key, no_deltas}
 use Rattle.records.proofs.Record.read.Goals as goal
 

@@ -1,5 +1,4 @@
 -- `records::RecordHeader::read` meets its contract. Assumes nothing.
-use borrow.Author.Rules.{rules}
 use Rattle.records.proofs.FieldSteps.{header_got, header_no_value, header_no_key}
 use Rattle.records.proofs.RecordHeader.read.Goals as goal
 
