@@ -112,7 +112,7 @@ const MOVES: [i64; 8] = [REASON, 6, MOVED, 5, REASON, 6, MOVED, 5];
 const EXPIRY: [i64; 4] = [REASON, 6, EXPIRED, 7];
 
 // Base offset, last offset delta, first and greatest timestamp.
-#[derive(Drop)]
+#[derive(Clone, Copy)]
 struct Extent(i64, i32, i64, i64);
 
 // The extents of all batches. Times are milliseconds since 1970: the log begins on 15 November 2024 at 08:00 UTC.
