@@ -22,7 +22,7 @@ fn main(rt: HostRuntime) -> io::Result<()> {
     let mut file = space();
     let input = read_input(&mut rt.stdin(), &mut file);
     if input.failed {
-        // The status is 0 as ever: this line alone tells.
+        // The status stays 0: this line alone tells.
         return rt.eprintln("list: standard input cannot be read");
     }
     let n = input.len;
@@ -35,9 +35,9 @@ fn space() -> [u8; SPACE]
     [0; SPACE]
 }
 
-// Reads until the input ends, the space is full or a read fails. A failure is not the end, and one
-// read more need not find it: a connection that was reset says so once. After the end nothing is read, so that no
-// byte of a file that grows is taken and then dropped, and no terminal is waited for again.
+// Reads until the input ends, the space is full or a read fails. A failure is not the end, and one read more need not
+// find it: a connection that was reset says so once. After the end nothing is read, so that no byte of a file that
+// grows is taken and then dropped, and no terminal is waited for again.
 fn read_input(input: &mut impl Read, file: &mut [u8]) -> Input
     ensures { IsPrefixLen result.len file.new }
 {
