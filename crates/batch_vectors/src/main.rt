@@ -8,8 +8,8 @@ mod times;
 mod writer;
 
 use agreement::agrees;
-use cases::groups::{Groups, Line, ROOM, line_end, whole};
-use cases::input::read_full;
+use cases::groups::{Groups, Line, line_end, whole};
+use cases::input::{read_full, room};
 use cases::tally::Tally;
 use std::io;
 
@@ -17,7 +17,7 @@ use std::io;
 const SPACE: usize = 4096;
 
 fn main(rt: HostRuntime) -> io::Result<()> {
-    let mut text = [0u8; ROOM];
+    let mut text = room();
     let n = read_full(&mut rt.stdin(), &mut text)?;
     whole(run(&rt, &text[..n])?, n).print(&rt, b"all")
 }

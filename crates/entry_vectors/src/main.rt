@@ -4,8 +4,8 @@ mod agreement;
 mod conversion;
 
 use agreement::agrees;
-use cases::groups::{Groups, Line, ROOM, line_end, whole};
-use cases::input::read_full;
+use cases::groups::{Groups, Line, line_end, whole};
+use cases::input::{read_full, room};
 use cases::tally::Tally;
 use std::io;
 
@@ -13,7 +13,7 @@ use std::io;
 const SPACE: usize = 4096;
 
 fn main(rt: HostRuntime) -> io::Result<()> {
-    let mut text = [0u8; ROOM];
+    let mut text = room();
     let n = read_full(&mut rt.stdin(), &mut text)?;
     whole(run(&rt, &text[..n])?, n).print(&rt, b"all")
 }

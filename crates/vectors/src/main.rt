@@ -11,8 +11,8 @@ mod totals;
 mod writing;
 
 use agreement::agrees;
-use cases::groups::{Groups, Line, ROOM, line_end, whole};
-use cases::input::read_full;
+use cases::groups::{Groups, Line, line_end, whole};
+use cases::input::{read_full, room};
 use cases::tally::Tally;
 use std::io;
 
@@ -20,7 +20,7 @@ use std::io;
 const SPACE: usize = 4096;
 
 fn main(rt: HostRuntime) -> io::Result<()> {
-    let mut text = [0u8; ROOM];
+    let mut text = room();
     let n = read_full(&mut rt.stdin(), &mut text)?;
     let read = whole(run(&rt, &text[..n])?, n);
     let one = shown(&rt, strings::one_byte(), b"one byte, both widths")?;
