@@ -23,7 +23,7 @@ const NUMBERS: usize = 6;
 
 // How many records there are. All but the last have the whole source as key and as value. The last has as many headers
 // as are said, and nulls. All its headers but the last have an empty key and the whole source as value.
-#[derive(Drop)]
+#[derive(Clone, Copy)]
 struct Rows {
     records: i64,
     headers: i64,

@@ -27,7 +27,7 @@ const OF_BATCH: usize = 14;
 const OF_RECORDS: usize = 4;
 
 // What is written.
-#[derive(Drop)]
+#[derive(Clone, Copy)]
 enum Task {
     Batch {
         mode: ControlMode,
@@ -43,7 +43,7 @@ enum Task {
 }
 
 // The same, and what document 01 answers where the output has room.
-#[derive(Drop)]
+#[derive(Clone, Copy)]
 struct Asked {
     task: Task,
     number: i64,

@@ -3,7 +3,7 @@ ghost use Rattle.std.specs.Prelude.{◌≤◌, min, length};
 
 use crate::tally::Tally;
 use crate::text::starts_with;
-use libc::STDOUT_FILENO;
+use std::io;
 
 // How many bytes a text may have.
 pub const ROOM: usize = 524288;
@@ -69,16 +69,16 @@ impl Groups {
     }
 
     // A heading ends the group before it. Its name is printed at once, and its counts once all its cases were met.
-    pub fn headed(self, heading: &[u8]) -> Self {
-        let all = self.ended();
+    pub fn headed(self, rt: &impl Print, heading: &[u8]) -> io::Result<Self> {
+        let all = self.ended(rt)?;
         if 2 <= heading.len() {
-            io::write_all(STDOUT_FILENO, &heading[2..]);
+            rt.write_all(&heading[2..])?;
         }
-        Groups {
+        Ok(Groups {
             all,
             group: Tally::new(),
             is_headed: true,
-        }
+        })
     }
 
     // A case before the first heading belongs to no group, and differs.
@@ -92,13 +92,13 @@ impl Groups {
     }
 
     // All cases up to here. A group with no case counts as one that differs.
-    pub fn ended(self) -> Tally {
+    pub fn ended(self, rt: &impl Print) -> io::Result<Tally> {
         let group = self.group;
         if !self.is_headed {
-            return self.all.plus(group);
+            return Ok(self.all.plus(group));
         }
         let settled = group.settled();
-        settled.print_counts();
-        self.all.plus(settled)
+        settled.print_counts(rt)?;
+        Ok(self.all.plus(settled))
     }
 }

@@ -1,6 +1,6 @@
 // A whole number of any kind, wide enough for 64 signed and for 64 unsigned bits: its distance from 0, or from -1 where
 // it is negative.
-#[derive(Drop)]
+#[derive(Clone, Copy)]
 pub struct Integer {
     pub negative: bool,
     pub distance: u64,

@@ -1,7 +1,7 @@
 // How many cases were run, and how many of them differed.
-use libc::STDOUT_FILENO;
+use std::io;
 
-#[derive(Drop)]
+#[derive(Clone, Copy)]
 pub struct Tally {
     pub cases: u64,
     pub differ: u64,
@@ -47,17 +47,15 @@ impl Tally {
         self
     }
 
-    pub fn print(self, name: &[u8]) {
-        io::write_all(STDOUT_FILENO, name);
-        self.print_counts();
+    pub fn print(self, rt: &impl Print, name: &[u8]) -> io::Result<()> {
+        rt.write_all(name)?;
+        self.print_counts(rt)
     }
 
-    pub fn print_counts(self) {
-        io::write_all(STDOUT_FILENO, b": ");
-        io::print_decimal(STDOUT_FILENO, self.cases);
-        io::write_all(STDOUT_FILENO, b" cases, ");
-        io::print_decimal(STDOUT_FILENO, self.differ);
-        io::write_all(STDOUT_FILENO, b" differ\n");
+    pub fn print_counts(self, rt: &impl Print) -> io::Result<()> {
+        let cases = self.cases;
+        let differ = self.differ;
+        println!(rt; ": {cases} cases, {differ} differ")
     }
 }
 

@@ -1,6 +1,6 @@
 // The text of cases: words of a line, and the numbers and bytes that words spell.
 ghost use Rattle.std.specs.Prelude.{◌≤◌, length};
-ghost use Rattle.io.specs.Counts.{IsPrefixLen};
+ghost use Rattle.std.specs.Counts.{IsPrefixLen};
 
 use crate::integer::Integer;
 

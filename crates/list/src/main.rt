@@ -1,9 +1,10 @@
 // Lists the batches of one file, which is read from standard input.
 ghost use Rattle.std.specs.Prelude.{◌≡◌, length};
-ghost use Rattle.io.specs.Counts.{IsPrefixLen};
+ghost use Rattle.std.specs.Counts.{IsPrefixLen};
 
-use libc::{STDERR_FILENO, STDIN_FILENO, STDOUT_FILENO};
 use listing::{Line, Next, list_at, list_first};
+use std::io;
+use std::io::Read;
 
 // One byte more than the longest file that is listed, so that a longer one shows.
 const SPACE: usize = 65537;
@@ -15,18 +16,17 @@ struct Input {
     failed: bool,
 }
 
-fn main() {
+fn main(rt: HostRuntime) -> io::Result<()> {
     let mut records = [0; 8192];
     let mut headers = [0; 8192];
     let mut file = space();
-    let input = read_input(&mut file);
+    let input = read_input(&mut rt.stdin(), &mut file);
     if input.failed {
-        // Rattle gives a program no status to end with: this line alone tells.
-        io::write_all(STDERR_FILENO, b"list: standard input cannot be read\n");
-        return;
+        // The status stays 0: this line alone tells.
+        return rt.eprintln("list: standard input cannot be read");
     }
     let n = input.len;
-    list(&file[..n], &mut records, &mut headers);
+    list(&rt, &file[..n], &mut records, &mut headers)
 }
 
 fn space() -> [u8; SPACE]
@@ -35,22 +35,20 @@ fn space() -> [u8; SPACE]
     [0; SPACE]
 }
 
-// Reads until the input ends, the space is full or a read fails. io::read_full would take a failure for the end, and
-// one read more need not find it: a connection that was reset says so once. After the end nothing is read, so that no
-// byte of a file that grows is taken and then dropped, and no terminal is waited for again.
-fn read_input(file: &mut [u8]) -> Input
+// Reads until the input ends, the space is full or a read fails. A failure is not the end, and one read more need not
+// find it: a connection that was reset says so once. After the end nothing is read, so that no byte of a file that
+// grows is taken and then dropped, and no terminal is waited for again.
+fn read_input(input: &mut impl Read, file: &mut [u8]) -> Input
     ensures { IsPrefixLen result.len file.new }
 {
     let mut n = 0;
     while n < file.len() {
-        let got = libc::read(STDIN_FILENO, &mut file[n..]);
-        if got < 0 {
+        let Ok(more) = input.read(&mut file[n..]) else {
             return Input {
                 len: n,
                 failed: true,
             };
-        }
-        let more = io::count(got, &file[n..]);
+        };
         if more == 0 {
             break;
         }
@@ -63,31 +61,36 @@ fn read_input(file: &mut [u8]) -> Input
 }
 
 // Prints the lines of a file. The tables are the rows that a batch may have.
-fn list(bytes: &[u8], records: &mut [i64], headers: &mut [i64]) {
+fn list(
+    rt: &impl Print,
+    bytes: &[u8],
+    records: &mut [i64],
+    headers: &mut [i64],
+) -> io::Result<()> {
     let first = list_first(bytes);
-    print(first.line);
+    print(rt, first.line)?;
     let next = first.next;
     let Next::At(start) = next else {
-        return;
+        return Ok(());
     };
     let mut place = start;
     loop {
         let entry = list_at(bytes, place, records, headers);
-        print(entry.line);
+        print(rt, entry.line)?;
         let next = entry.next;
         match next {
             Next::At(further) => {
                 place = further;
             }
-            Next::Done => return,
+            Next::Done => return Ok(()),
         }
     }
 }
 
-fn print(line: Line)
+fn print(rt: &impl Print, line: Line) -> io::Result<()>
     requires { IsPrefixLen line.len line.bytes }
 {
     let n = line.len;
     let bytes = line.bytes;
-    io::write_all(STDOUT_FILENO, &bytes[..n]);
+    rt.write_all(&bytes[..n])
 }

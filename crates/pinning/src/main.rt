@@ -4,8 +4,8 @@ ghost use Rattle.std.specs.Prelude.{◌≤◌, ◌<◌, ◌≡◌, length};
 
 use batches::{ControlBatchOrRecords, RecordBatch};
 use layout::{ControlMode, RecordBatchTimestampType};
-use libc::STDOUT_FILENO;
 use markers::ControlBatchRecord;
+use std::io;
 use writing::Written;
 
 // What keys and values are taken from: ten cookies, six servers, and the words of the headers.
@@ -56,6 +56,9 @@ const SOUTH: i64 = NORTH + 5;
 const ROW: usize = 8;
 
 const TABLE: usize = 24 * ROW;
+
+// How many bytes a batch may have.
+const ROOM: usize = 4096;
 
 // The rows of all batches, one batch after the other: timestamp delta, offset delta, start and length of key and value,
 // first header row, header count. Cookies and servers are counted from 0.
@@ -109,7 +112,7 @@ const MOVES: [i64; 8] = [REASON, 6, MOVED, 5, REASON, 6, MOVED, 5];
 const EXPIRY: [i64; 4] = [REASON, 6, EXPIRED, 7];
 
 // Base offset, last offset delta, first and greatest timestamp.
-#[derive(Drop)]
+#[derive(Clone, Copy)]
 struct Extent(i64, i32, i64, i64);
 
 // The extents of all batches. Times are milliseconds since 1970: the log begins on 15 November 2024 at 08:00 UTC.
@@ -154,11 +157,11 @@ const COMMIT: ControlBatchOrRecords = ControlBatchOrRecords::ControlBatch(
     ControlBatchRecord::Commit,
 );
 
-fn main() {
+fn main(rt: HostRuntime) -> io::Result<()> {
     let records = rows();
-    pin(&records);
-    move_together(&records);
-    go_on(&records);
+    pin(&rt, &records)?;
+    move_together(&rt, &records)?;
+    go_on(&rt, &records)
 }
 
 fn rows() -> [i64; TABLE]
@@ -175,40 +178,40 @@ fn rows() -> [i64; TABLE]
     table
 }
 
-fn pin(records: &[i64; TABLE]) {
+fn pin(rt: &impl Print, records: &[i64; TABLE]) -> io::Result<()> {
     let b = batch(0, NOBODY, CREATED);
-    print(b, ControlBatchOrRecords::Records(4), records, 0, &NONE);
+    print(rt, b, ControlBatchOrRecords::Records(4), records, 0, &NONE)?;
     let b = batch(1, NOBODY, CREATED);
-    print(b, ControlBatchOrRecords::Records(3), records, 4, &ZONES);
+    print(rt, b, ControlBatchOrRecords::Records(3), records, 4, &ZONES)?;
     let b = batch(2, NOBODY, CREATED);
-    print(b, ControlBatchOrRecords::Records(2), records, 7, &TO_NORTH);
+    print(rt, b, ControlBatchOrRecords::Records(2), records, 7, &TO_NORTH)?;
     let b = batch(3, NOBODY, CREATED);
-    print(b, ControlBatchOrRecords::Records(2), records, 9, &EXPIRY);
+    print(rt, b, ControlBatchOrRecords::Records(2), records, 9, &EXPIRY)
 }
 
 // Two transactions, each with the marker that ends it.
-fn move_together(records: &[i64; TABLE]) {
+fn move_together(rt: &impl Print, records: &[i64; TABLE]) -> io::Result<()> {
     let b = batch(4, MOVING, CREATED);
-    print(b, ControlBatchOrRecords::Records(3), records, 11, &MOVES);
+    print(rt, b, ControlBatchOrRecords::Records(3), records, 11, &MOVES)?;
     let b = batch(5, MARKING, CREATED);
-    print(b, COMMIT, records, 0, &NONE);
+    print(rt, b, COMMIT, records, 0, &NONE)?;
     let b = batch(6, MOVING_ON, CREATED);
-    print(b, ControlBatchOrRecords::Records(2), records, 14, &MOVES);
+    print(rt, b, ControlBatchOrRecords::Records(2), records, 14, &MOVES)?;
     let b = batch(7, MARKING, CREATED);
-    print(b, ABORT, records, 0, &NONE);
+    print(rt, b, ABORT, records, 0, &NONE)
 }
 
 // The first batch has lost all its three records to compaction and the third has lost three of six: both keep the
 // offsets that they had.
-fn go_on(records: &[i64; TABLE]) {
+fn go_on(rt: &impl Print, records: &[i64; TABLE]) -> io::Result<()> {
     let b = batch(8, REMEMBERED, CREATED);
-    print(b, ControlBatchOrRecords::Records(0), records, 0, &NONE);
+    print(rt, b, ControlBatchOrRecords::Records(0), records, 0, &NONE)?;
     let b = batch(9, NOBODY, APPENDED);
-    print(b, ControlBatchOrRecords::Records(3), records, 16, &NONE);
+    print(rt, b, ControlBatchOrRecords::Records(3), records, 16, &NONE)?;
     let b = batch(10, NOBODY, CREATED);
-    print(b, ControlBatchOrRecords::Records(3), records, 19, &NONE);
+    print(rt, b, ControlBatchOrRecords::Records(3), records, 19, &NONE)?;
     let b = batch(11, NOBODY, CREATED);
-    print(b, ControlBatchOrRecords::Records(2), records, 22, &TO_SOUTH);
+    print(rt, b, ControlBatchOrRecords::Records(2), records, 22, &TO_SOUTH)
 }
 
 // The batch with the extent of this number.
@@ -233,23 +236,22 @@ fn batch(n: usize, p: Producer, timestamp_type: RecordBatchTimestampType) -> Rec
 // Writes a batch whose records have their rows from `first` on. One that is refused is left out, and the log is then
 // not the one that is expected.
 fn print(
+    rt: &impl Print,
     batch: RecordBatch,
     kind: ControlBatchOrRecords,
     records: &[i64; TABLE],
     first: usize,
     headers: &[i64],
-)
+) -> io::Result<()>
     requires { first ≤ 24 }
 {
-    let mut output = io::buffer();
+    let mut output = [0u8; ROOM];
     let all = &records[..];
     let from = ROW * first;
     let keyed = ControlMode::Keyed;
     let written = batch.write(keyed, 0, kind, &all[from..], headers, &SOURCE, &mut output);
     match written {
-        Written::Bytes(n) => {
-            io::write_all(STDOUT_FILENO, &output[..n]);
-        }
-        Written::Refused(_) => {}
+        Written::Bytes(n) => rt.write_all(&output[..n]),
+        Written::Refused(_) => Ok(()),
     }
 }

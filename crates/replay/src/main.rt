@@ -6,31 +6,34 @@ mod answers;
 mod text;
 
 use answers::answer;
-use libc::STDIN_FILENO;
+use cases::input::read_full;
 use primitives::{Cursor, Uint32Read};
+use std::io;
 use text::print;
 
-fn main() {
-    let mut input = io::large_buffer();
-    let n = io::read_full(STDIN_FILENO, &mut input);
-    replay(&input[..n]);
+// How many bytes the cases may have.
+const ROOM: usize = 65536;
+
+fn main(rt: HostRuntime) -> io::Result<()> {
+    let mut input = [0u8; ROOM];
+    let n = read_full(&mut rt.stdin(), &mut input)?;
+    replay(&rt, &input[..n])
 }
 
-fn replay(input: &[u8]) {
+fn replay(rt: &impl Print, input: &[u8]) -> io::Result<()> {
     let mut at = 0;
     while at < input.len() {
         let Uint32Read::Got(size, next) = (Cursor { at }).read_uint32(input) else {
-            print(b"cut\n");
-            return;
+            return print(rt, b"cut\n");
         };
         let start = next.at;
         let size = size.0 as usize;
         if input.len() - start < size {
-            print(b"cut\n");
-            return;
+            return print(rt, b"cut\n");
         }
         let end = start + size;
-        answer(&input[start..end]);
+        answer(rt, &input[start..end])?;
         at = end;
     }
+    Ok(())
 }

@@ -1,46 +1,41 @@
 // Words of the lines that are printed.
 ghost use Rattle.std.specs.Prelude.{◌+◌, ◌≤◌};
 
-use libc::STDOUT_FILENO;
 use primitives::Span;
+use std::io;
 
 const NOTHING: Span = Span { start: 0, len: 0 };
 
-pub fn print(text: &[u8]) {
-    io::write_all(STDOUT_FILENO, text);
+pub fn print(rt: &impl Print, text: &[u8]) -> io::Result<()> {
+    rt.write_all(text)
 }
 
 // A space and a number.
-pub fn print_signed(n: i64) {
-    if 0 <= n {
-        print(b" ");
-        io::print_decimal(STDOUT_FILENO, n as u64);
-        return;
-    }
-    print(b" -");
-    io::print_decimal(STDOUT_FILENO, (-1 - n) as u64 + 1);
+pub fn print_signed(rt: &impl Print, n: i64) -> io::Result<()> {
+    print!(rt; " {n}")
 }
 
 // A space and the bytes of the source that two numbers of a row stand for, or null.
-pub fn print_bytes(source: &[u8], start: i64, len: i64) {
-    print(b" ");
+pub fn print_bytes(rt: &impl Print, source: &[u8], start: i64, len: i64) -> io::Result<()> {
+    print(rt, b" ")?;
     if len < 0 {
-        print(b"null");
-        return;
+        return print(rt, b"null");
     }
     let part = within(start, len, source.len());
     let start = part.start;
     let end = start + part.len;
-    print_hexadecimal(&source[start..end]);
+    print_hexadecimal(rt, &source[start..end])
 }
 
-pub fn print_hexadecimal(bytes: &[u8]) {
-    print(b"x");
+pub fn print_hexadecimal(rt: &impl Print, bytes: &[u8]) -> io::Result<()> {
+    print(rt, b"x")?;
     let mut i = 0;
     while i < bytes.len() {
-        io::print_hex(STDOUT_FILENO, bytes[i] as u64, 2);
+        let b = bytes[i];
+        print!(rt; "{b:02x}")?;
         i += 1;
     }
+    Ok(())
 }
 
 // The part of so many bytes or rows that two numbers of a row stand for. Numbers that stand for no part of them give

@@ -6,7 +6,7 @@ use primitives::{
     Uint64Read, VarintRead, VarlongRead,
 };
 
-#[derive(Drop)]
+#[derive(Clone, Copy)]
 pub enum Outcome {
     // Document 01's number.
     Refused(Integer),

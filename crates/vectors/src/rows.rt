@@ -15,7 +15,7 @@ struct Question {
 }
 
 // Document 01's number, the counts of records and headers, and the end: 0 where the number names none.
-#[derive(Drop)]
+#[derive(Clone, Copy)]
 struct Answer {
     number: usize,
     records: usize,

@@ -14,7 +14,7 @@ pub fn one_byte() -> Tally {
 }
 
 pub fn two_bytes() -> Tally {
-    let mut met = io::large_buffer();
+    let mut met = [0u8; 65536];
     two_byte_strings(&mut met)
 }
 
