@@ -15,11 +15,11 @@ use Rattle.primitives.specs.Reading.{signed_by}
 use Rattle.primitives.proofs.Windows.{big_window}
 use Rattle.records.proofs.Refusals.{refusal_within, records_refuses}
 use Rattle.layout.specs.Table.{Slot, table}
-use Rattle.opening.specs.Judgement.{way_of, refused, accepted, unsigned_in, number_in, attributes_in, is, below, Control, content_at, judge_with, judge}
+use Rattle.opening.specs.Judgement.{way_of, refused, accepted, unsigned_in, number_in, attributes_in, below, Control, content_at, judge_with, judge}
 use Rattle.opening.proofs.Tests.{Totals, low, unknown, there, is_false, is_not, Openings, no_attributes, unknown_codec, no_fields, low_count, compressed, wrong_count}
 use Rattle.layout.specs.declared.ControlMode.{ControlMode}
 use Rattle.markers.proofs.Forms.{forms_lawful}
-use Rattle.batches.specs.Statements.{Within, Refusals, WaysWithin, Whole, sum, Checked, Below, FrontWrong, Numbers}
+use Rattle.batches.specs.Statements.{Refusals, WaysWithin, Whole, sum, Checked, Below, FrontWrong, Numbers}
 use Rattle.batches.proofs.Refused.{Right, WholeRefusal, differs, unopened, unread, Refusal, unsized, sized, refusal, refused_is, content_no}
 
 pub late_least : {n : ℕ} → ((8 ≤ n) × (n ≤ 13)) ⊎ (n ≡ 41) → 8 ≤ n

@@ -11,7 +11,7 @@ use Rattle.numbers.proofs.Integers.{unsigned_length, integer_length}
 use Rattle.records.specs.Format.{Record}
 use Rattle.records.proofs.Sizes.{total_sizes}
 use Rattle.layout.specs.Table.{fixed_part, uncounted_fields, unchecked_fields}
-use Rattle.layout.specs.Batch.{Marker, Content, control, records, Batch}
+use Rattle.layout.specs.Batch.{Content, control, records, Batch}
 use Rattle.layout.specs.Format.{grammar_of, ContentBytes, Grammar, BatchBytesWith}
 use Rattle.opening.specs.Judgement.{Accepted, way_of}
 use Rattle.layout.specs.declared.ControlMode.{ControlMode}

@@ -28,7 +28,7 @@ use Rattle.records.proofs.Sound.{records_sound}
 use Rattle.layout.specs.Table.{Slot, table, uncounted_fields, unchecked_fields, checked_fields}
 use Rattle.layout.specs.Batch.{Content, control, records, Batch}
 use Rattle.layout.specs.Format.{Grammar, grammar_of, bit, control_bit, how_many, Counts, ContentBytes, BatchBytesWith}
-use Rattle.opening.specs.Judgement.{Control, way_of, Accepted, unsigned_in, number_in, attributes_in, fields_in, is, content_at}
+use Rattle.opening.specs.Judgement.{Control, way_of, Accepted, unsigned_in, number_in, attributes_in, fields_in, content_at}
 use Rattle.opening.proofs.Tests.{Says}
 use Rattle.markers.specs.Forms.{Reads}
 use Rattle.markers.proofs.Forms.{forms_lawful}

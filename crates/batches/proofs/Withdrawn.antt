@@ -1,6 +1,6 @@
 -- What is withdrawn: the judgement parts from the old rules' only at the marker, and there where one stands alone.
 -- Assumes nothing.
-use Prim.Native.Nat.{ℕ, ◌+◌, ◌≤◌}
+use Prim.Native.Nat.{ℕ, ◌+◌}
 use mathlib.Core.Path.{◌≡◌, refl, sym, ap, ◌∙◌, subst}
 use mathlib.Core.Bool.{Bool, true, false}
 use mathlib.Core.Logic.{◌⊎◌, inl, inr}
@@ -14,9 +14,9 @@ use Rattle.records.specs.Format.{Record}
 use Rattle.records.specs.Judgement.{RecordSpans, records_at}
 use Rattle.records.proofs.Refusals.{refusal_within}
 use Rattle.layout.specs.declared.ControlMode.{ControlMode}
-use Rattle.layout.specs.Batch.{Fields, Marker, Content, control, records, Batch}
+use Rattle.layout.specs.Batch.{Fields, Marker, control, records, Batch}
 use Rattle.layout.specs.Format.{bare_grammar, BatchBytesWith}
-use Rattle.opening.specs.Judgement.{Judged, Judgement, more, refused, accepted, Accepted, Control, content_at, judge_with, bare_marker_at, former_way_of, withdrawn as unless, way_of, judge_at}
+use Rattle.opening.specs.Judgement.{Judged, Judgement, more, refused, accepted, Accepted, content_at, judge_with, bare_marker_at, former_way_of, withdrawn as unless, way_of, judge_at}
 use Rattle.opening.specs.Opened.{KnownAt, open_at, judged_as, judged_from}
 use Rattle.opening.proofs.Judging.{judged_by_opening}
 use Rattle.opening.proofs.Verdicts.{more_not_accepted, refused_not_accepted, same_accepted}

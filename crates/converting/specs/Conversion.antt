@@ -7,7 +7,7 @@ use Rattle.records.specs.Judgement.{RecordSpans}
 use Rattle.layout.specs.declared.ControlMode.{ControlMode}
 use Rattle.layout.specs.Table.{unchecked}
 use Rattle.layout.specs.Batch.{Marker, Content, control, records}
-use Rattle.opening.specs.Judgement.{Judged, more, refused, accepted, Accepted, Judgement, judge_with, bare_marker_at, judge}
+use Rattle.opening.specs.Judgement.{Judged, more, refused, accepted, Judgement, judge_with, bare_marker_at, judge}
 use Rattle.markers.specs.Forms.{written_control}
 
 -- how many bytes the batch has, and the bytes that are given for it

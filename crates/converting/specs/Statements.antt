@@ -1,6 +1,6 @@
 -- The laws of the conversion, each in words and then as a statement. What proves each stands in proofs/ under the
 -- statement's name in small letters: `converted_reads : ConvertedReads`.
-use Rattle.std.specs.Prelude.{ℕ, ◌+◌, ◌<◌, ◌≤◌, ◌≡◌, false, ◌⊎◌, List, ◌++◌, length, take, drop}
+use Rattle.std.specs.Prelude.{ℕ, ◌+◌, ◌<◌, ◌≤◌, ◌≡◌, ◌⊎◌, List, ◌++◌, length, take, drop}
 use Rattle.numbers.specs.Bytes.{Bytes}
 use Rattle.numbers.specs.Exactly.{Exactly}
 use Rattle.layout.specs.declared.ControlMode.{ControlMode}

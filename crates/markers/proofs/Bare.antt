@@ -1,6 +1,6 @@
 -- The form that is withdrawn: version and type, each an integer of two bytes, and nothing after them. Assumes nothing.
 use Prim.Native.Nat.{ℕ, ◌+◌, ◌≤◌}
-use mathlib.Core.Path.{◌≡◌, refl, sym, ap, ◌∙◌, subst, subst₂}
+use mathlib.Core.Path.{◌≡◌, refl, ap, ◌∙◌, subst, subst₂}
 use mathlib.Core.List.{List, ◌++◌}
 use native.Mathlib.Omega.{arith}
 use borrow.Author.Tests.{le-ltb, ltb-false}
@@ -9,7 +9,7 @@ use lib.IntN.{ℤ, pos}
 use lib.ListN.{length, length-append}
 use Rattle.numbers.specs.Bytes.{Bytes}
 use Rattle.numbers.specs.Format.{big_endian, Integer}
-use Rattle.numbers.proofs.Integers.{big_endian_length, integer_length}
+use Rattle.numbers.proofs.Integers.{integer_length}
 use Rattle.numbers.proofs.AllBytes.{joined_bytes, big_endian_bytes}
 use Rattle.primitives.specs.Step.{ok, no, and_then}
 use Rattle.primitives.specs.Stands.{Stands, Encoding}
@@ -29,7 +29,6 @@ use Rattle.opening.proofs.Tests.{is_true}
 use Rattle.opening.proofs.MarkerFaults.{marker_again, type_read, sixteen}
 use Rattle.markers.specs.Markers.{written_marker}
 use Rattle.markers.specs.Forms.{BareReads}
-use Rattle.markers.proofs.Encodes.{marker_encodes, marker_written}
 
 -- a marker has four bytes
 pub bare_length : {bs : List ℕ} {m : Marker} → MarkerBytes bs m → length bs ≡ 4

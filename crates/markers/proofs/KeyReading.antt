@@ -1,6 +1,6 @@
 -- What the reading of a keyed marker returns: by what the check says of the record, and by its key. The premises have
 -- the form in which a proof finds them. Assumes nothing.
-use Prim.Native.Nat.{ℕ, ◌+◌, ◌≤◌, ◌<◌}
+use Prim.Native.Nat.{ℕ, ◌+◌, ◌≤◌}
 use mathlib.Core.Path.{◌≡◌, refl, sym, ap, ◌∙◌, subst}
 use mathlib.Core.Bool.{Bool, true, false}
 use mathlib.Core.Option.{Option, none, some}
@@ -35,7 +35,6 @@ use Rattle.records.proofs.Keys.{HeadOf, head_of}
 use Rattle.records.proofs.RecordMoves.{record_moves}
 use Rattle.reading.specs.declared.RecordsCheck.{RecordsCheck}
 use Rattle.reading.specs.Answers.{counts_of, view_check}
-use Rattle.layout.specs.declared.ControlMode.{ControlMode}
 use Rattle.layout.specs.Batch.{Marker}
 use Rattle.opening.specs.declared.BatchFault.{BatchFault}
 use Rattle.opening.specs.Answers.{batch_number_of}

@@ -1,27 +1,24 @@
 -- What the reading of a marker returns: by the version, the type and whether anything follows. The premises have the
 -- form in which a proof finds them. Assumes nothing.
 use Prim.Native.Nat.{ℕ, ◌≤◌, ◌<◌}
-use mathlib.Core.Path.{◌≡◌, refl, sym, ap, ◌∙◌, subst}
-use mathlib.Core.Bool.{true, false}
+use mathlib.Core.Path.{◌≡◌, sym, ap, ◌∙◌}
 use mathlib.Core.List.{List}
 use native.Mathlib.Omega.{arith}
 use borrow.Author.Tests.{lt-ltb, le-ltb}
 use lib.IntN.{ℤ}
-use lib.ListN.{length, get_or}
-use mir.Syntax.{w8, w16}
-use mir.Val.{Fits, SFits, of_z}
+use lib.ListN.{length}
+use mir.Syntax.{w16}
+use mir.Val.{SFits, of_z}
 use Rattle.numbers.specs.declared.Int16.{Int16}
 use Rattle.primitives.specs.declared.Cursor.{Cursor}
 use Rattle.primitives.specs.declared.Fault.{Fault}
 use Rattle.primitives.specs.declared.Int16Read.{Int16Read}
 use Rattle.primitives.specs.Step.{Step, ok, no, and_then}
-use Rattle.primitives.specs.Stands.{Encoding}
 use Rattle.primitives.proofs.Steps.{ok_not_no}
 use Rattle.primitives.specs.Reading.{integer_at}
 use Rattle.primitives.specs.Answers.{number_of, view_int16}
 use Rattle.layout.specs.declared.ControlMode.{ControlMode}
 use Rattle.layout.specs.Batch.{Marker, abort, commit}
-use Rattle.layout.specs.Format.{grammar_of}
 use Rattle.opening.specs.declared.BatchFault.{BatchFault}
 use Rattle.opening.specs.Answers.{batch_number_of}
 use Rattle.opening.specs.Judgement.{marker_of, ended_at, bare_marker_at, keyed_marker_at, former_way_of, way_of}

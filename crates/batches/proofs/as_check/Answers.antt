@@ -1,7 +1,6 @@
 -- `batches::as_check` meets its contract. Assumes nothing.
 use mathlib.Core.Path.{sym, ap}
 use Rattle.batches.specs.Reading.{check_of_records_read}
-use borrow.Author.Rules.{rules}
 use Rattle.batches.proofs.as_check.Goals as goal
 
 pub returns-in-Refused : goal.returns-in-Refused

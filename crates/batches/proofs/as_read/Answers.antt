@@ -1,7 +1,6 @@
 -- `batches::as_read` meets its contract. Assumes nothing.
 use mathlib.Core.Path.{sym, ap}
 use Rattle.batches.specs.Answers.{view_check}
-use borrow.Author.Rules.{rules}
 use Rattle.batches.proofs.as_read.Goals as goal
 
 pub returns-in-Accepted : goal.returns-in-Accepted

@@ -2,7 +2,6 @@
 use Rattle.opening.proofs.Judging.{cut_length}
 use Rattle.batches.proofs.Answering.{opened_within, check_more, check_refused, check_marker, check_records_as}
 use native.Mathlib.Omega.{arith}
-use borrow.Author.Rules.{rules}
 use Rattle.batches.proofs.check_at.Goals as goal
 
 pub overflow_add-end : goal.overflow_add-end

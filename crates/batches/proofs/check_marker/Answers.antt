@@ -1,5 +1,4 @@
 -- `batches::check_marker` meets its contract. Assumes nothing.
-use borrow.Author.Rules.{rules}
 use Rattle.batches.proofs.Answering.{marker_got, marker_refused}
 use Rattle.batches.proofs.check_marker.Goals as goal
 

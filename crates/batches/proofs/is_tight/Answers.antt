@@ -1,5 +1,4 @@
 -- `batches::is_tight` meets its contract: the tests, in their order. Assumes nothing.
-use borrow.Author.Rules.{rules}
 use Rattle.batches.proofs.Strictly.{tight_first, tight_second, tight_third}
 use Rattle.batches.proofs.is_tight.Goals as goal
 

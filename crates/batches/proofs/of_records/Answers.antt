@@ -1,7 +1,6 @@
 -- `batches::of_records` meets its contract. Assumes nothing.
 use mathlib.Core.Path.{sym, ap}
 use Rattle.batches.specs.Reading.{of_records_read}
-use borrow.Author.Rules.{rules}
 use Rattle.batches.proofs.of_records.Goals as goal
 
 pub returns-in-Accepted : goal.returns-in-Accepted

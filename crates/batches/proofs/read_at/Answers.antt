@@ -2,7 +2,6 @@
 use Rattle.opening.proofs.Judging.{cut_length}
 use Rattle.batches.proofs.Answering.{opened_within, read_more, read_refused_lem, read_marker_lem, read_records_as}
 use native.Mathlib.Omega.{arith}
-use borrow.Author.Rules.{rules}
 use Rattle.batches.proofs.read_at.Goals as goal
 
 pub overflow_add-end : goal.overflow_add-end

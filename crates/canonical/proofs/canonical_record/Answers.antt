@@ -1,5 +1,4 @@
 -- `canonical::canonical_record` meets its contract. Assumes nothing.
-use borrow.Author.Rules.{rules}
 use native.Mathlib.Omega.{arith}
 use lib.ListN.{length-take}
 use Rattle.canonical.proofs.StrictSteps.{length_moves, long_length, nothing_left, attributes_used, past_end, ends_elsewhere, longer_fields, strict_got, no_fields, no_length}

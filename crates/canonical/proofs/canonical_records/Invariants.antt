@@ -1,8 +1,6 @@
 -- `canonical::canonical_records` meets its contract. Assumes nothing.
-use borrow.Author.Rules.{rules}
 use Rattle.numbers.specs.Exactly.{Exactly}
 use Rattle.canonical.specs.Promises.{StandStrictly}
-use Rattle.canonical.proofs.StrictSteps.{run_stop, run_turn, run_ends, run_elsewhere}
 use Rattle.canonical.proofs.canonical_records.Given as goal
 
 abbrev pub invariant-loop-left : goal.invariant-loop-left

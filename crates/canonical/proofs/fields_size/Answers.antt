@@ -1,5 +1,4 @@
 -- `canonical::fields_size` meets its contract. Assumes nothing.
-use borrow.Author.Rules.{rules}
 use native.Mathlib.Omega.{arith}
 use Rattle.canonical.proofs.SizeSteps.{headers_small, fields_got, fields_no_headers, fields_no_head}
 use Rattle.canonical.proofs.fields_size.Goals as goal

@@ -1,13 +1,10 @@
 -- `canonical::headers_size` meets its contract. Assumes nothing.
-use borrow.Author.Rules.{rules}
 use Prim.Native.Nat.{◌≤◌}
-use mathlib.Core.Path.{◌≡◌, refl}
-use native.Mathlib.Omega.{arith}
+use mathlib.Core.Path.{◌≡◌}
 use Rattle.primitives.specs.Step.{map_step, times}
 use Rattle.records.specs.Judgement.{header_at}
 use Rattle.sizes.specs.Sizes.{cap}
 use Rattle.canonical.specs.Tight.{headers_onto}
-use Rattle.canonical.proofs.SizeSteps.{headers_stop, headers_turn, headers_end}
 use Rattle.canonical.proofs.headers_size.Given as goal
 
 abbrev pub invariant-loop-left : goal.invariant-loop-left

@@ -1,6 +1,5 @@
 -- `converting::put_length` meets its contract. Assumes nothing.
 use Rattle.converting.proofs.Copying.{length_put_lem}
-use borrow.Author.Rules.{rules}
 use Rattle.converting.proofs.put_length.Goals as goal
 
 pub returns : goal.returns

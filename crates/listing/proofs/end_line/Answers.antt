@@ -1,5 +1,4 @@
 -- `listing::end_line` meets its contract. Assumes nothing.
-use borrow.Author.Rules.{rules}
 use Rattle.listing.specs.Text.{ascii}
 use Rattle.listing.specs.Listing.{end_line}
 use Rattle.listing.proofs.Lines.{on_same, onto}

@@ -1,5 +1,4 @@
 -- `listing::stop_line` meets its contract. Assumes nothing.
-use borrow.Author.Rules.{rules}
 use Rattle.listing.specs.Text.{ascii}
 use Rattle.listing.specs.Listing.{stop_line}
 use Rattle.listing.proofs.Lines.{on_same, onto}

@@ -1,9 +1,6 @@
 -- `markers::stand` meets its contract: what stands before i has been compared. Assumes nothing.
-use Prim.Native.Nat.{◌+◌, ◌-◌, ◌≤◌}
-use mathlib.Core.Path.{◌≡◌}
 use native.Mathlib.Omega.{arith}
-use lib.ListN.{length}
-use Rattle.markers.proofs.Comparing.{Alike, one_compared, past_it, not_as_long, one_differs, all_compared}
+use Rattle.markers.proofs.Comparing.{one_compared, past_it, not_as_long, one_differs, all_compared}
 use borrow.Author.Rules.{rules}
 use Rattle.markers.proofs.stand.Goals as goal
 

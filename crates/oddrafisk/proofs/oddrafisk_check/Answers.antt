@@ -1,5 +1,4 @@
 -- `oddrafisk::oddrafisk_check` meets its contract. Assumes nothing.
-use borrow.Author.Rules.{rules}
 use Rattle.oddrafisk.proofs.Saying.{check_fits, check_said}
 use Rattle.oddrafisk.proofs.oddrafisk_check.Goals as goal
 

@@ -1,5 +1,4 @@
 -- `oddrafisk::oddrafisk_measure` meets its contract. Assumes nothing.
-use borrow.Author.Rules.{rules}
 use Rattle.records.specs.Rows.{tables}
 use Rattle.oddrafisk.proofs.Asking.{measure_fits, measure_said}
 use Rattle.oddrafisk.proofs.oddrafisk_measure.Goals as goal

@@ -1,5 +1,4 @@
 -- `oddrafisk::oddrafisk_read` meets its contract. Assumes nothing.
-use borrow.Author.Rules.{rules}
 use Rattle.oddrafisk.proofs.Saying.{read_fits, read_said}
 use Rattle.oddrafisk.proofs.oddrafisk_read.Goals as goal
 

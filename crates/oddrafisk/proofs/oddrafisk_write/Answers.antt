@@ -1,5 +1,4 @@
 -- `oddrafisk::oddrafisk_write` meets its contract. Assumes nothing.
-use borrow.Author.Rules.{rules}
 use Rattle.records.specs.Rows.{tables}
 use Rattle.oddrafisk.proofs.Asking.{write_fits, write_said}
 use Rattle.oddrafisk.proofs.oddrafisk_write.Goals as goal

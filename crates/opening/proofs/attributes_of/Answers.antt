@@ -1,5 +1,4 @@
 -- `opening::attributes_of` meets its contract. Assumes nothing.
-use borrow.Author.Rules.{rules}
 use Rattle.opening.proofs.Fields.{attributes_are}
 use Rattle.opening.proofs.attributes_of.Goals as goal
 

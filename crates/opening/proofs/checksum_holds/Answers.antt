@@ -1,5 +1,4 @@
 -- `opening::checksum_holds` meets its contract. Assumes nothing.
-use borrow.Author.Rules.{rules}
 use native.Mathlib.Omega.{arith}
 use Rattle.opening.proofs.Openings.{crc_there, sums_compare}
 use Rattle.opening.proofs.checksum_holds.Goals as goal

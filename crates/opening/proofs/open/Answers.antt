@@ -1,5 +1,4 @@
 -- `opening::open` meets its contract. Assumes nothing.
-use borrow.Author.Rules.{rules}
 use native.Mathlib.Omega.{arith}
 use Rattle.opening.proofs.Openings.{opens_not, opens_on}
 use mathlib.Core.Path.{ap}

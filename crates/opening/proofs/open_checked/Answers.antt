@@ -1,5 +1,4 @@
 -- `opening::open_checked` meets its contract. Assumes nothing.
-use borrow.Author.Rules.{rules}
 use Rattle.opening.proofs.Openings.{opens_no_attributes, opens_no_times, opens_no_producer, opens_no_count, opens}
 use Rattle.opening.proofs.open_checked.Goals as goal
 

@@ -1,7 +1,6 @@
 -- `writing::measure_records` meets its contract. Assumes nothing.
 use Rattle.writing.proofs.Whole.{too_few, too_long, fits, wrong}
 use Rattle.records.specs.Rows.{tables}
-use borrow.Author.Rules.{rules}
 use Rattle.writing.proofs.measure_records.Goals as goal
 
 pub returns-then-records-count : goal.returns-then-records-count

@@ -1,5 +1,4 @@
 -- `writing::put_byte` meets its contract. Assumes nothing.
-use borrow.Author.Rules.{rules}
 use Rattle.writing.proofs.Short.{byte_past, byte_put}
 use Rattle.writing.proofs.put_byte.Goals as goal
 

@@ -1,6 +1,5 @@
 -- `writing::put_header` meets its contract. Assumes nothing.
 use Rattle.writing.proofs.Pens.{two}
-use borrow.Author.Rules.{rules}
 use Rattle.writing.proofs.put_header.Goals as goal
 
 pub returns : goal.returns

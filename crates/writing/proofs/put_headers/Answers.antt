@@ -1,15 +1,8 @@
 -- `writing::put_headers` meets its contract. Assumes nothing.
 use Rattle.writing.proofs.Inside.{header_inside}
-use Rattle.writing.proofs.Loops.{rest, headers_on, header_stop, headers_turn, headers_end}
-use Rattle.asking.specs.Asked.{header_asked}
-use Rattle.records.specs.Written.{written_headers}
-use Rattle.records.specs.Placed.{shown_header}
-use Rattle.numbers.specs.Pen.{pen, emit}
-use Rattle.primitives.specs.Step.{map_step, times}
-use lib.ListN.{length}
+use Rattle.writing.proofs.Loops.{header_stop, headers_turn, headers_end}
 use borrow.Author.Rules.{rules}
 use native.Mathlib.Omega.{arith}
-use mathlib.Core.List.{map}
 use mathlib.Core.Path.{◌≡◌, refl, ◌∙◌}
 use Prim.Native.Nat.{◌+◌}
 use Rattle.writing.proofs.put_headers.Goals as goal
@@ -27,13 +20,12 @@ pub returns-in-Refused : goal.returns-in-Refused
 returns-in-Refused c = search header_stop
 
 pub loop-left-preserved : goal.loop-left-preserved
-loop-left-preserved c =
-    (
-      headers_turn _ _ _ _ _ _ _ _ _ _ c.loop-left.invariant.0 c.loop-left-test.true c.loop-left.invariant.1 c.requires c.header_asked.ensures c.in-Got.is
-          c.put_header-at.ensures,
-      omega arith,
-      c.put_header-at.auto.output ∙ c.loop-left.invariant.2,
-    )
+loop-left-preserved c = (
+  headers_turn _ _ _ _ _ _ _ _ _ _ c.loop-left.invariant.0 c.loop-left-test.true c.loop-left.invariant.1 c.requires c.header_asked.ensures c.in-Got.is
+      c.put_header-at.ensures,
+  omega arith,
+  c.put_header-at.auto.output ∙ c.loop-left.invariant.2,
+)
 
 pub shape_of-output : goal.shape_of-output
 shape_of-output c = c.loop-left.invariant.2

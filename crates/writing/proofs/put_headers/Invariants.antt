@@ -1,16 +1,13 @@
 -- `writing::put_headers` meets its contract. Assumes nothing.
-use Rattle.writing.proofs.Inside.{header_inside}
-use Rattle.writing.proofs.Loops.{rest, headers_on, header_stop, headers_turn, headers_end}
+use Rattle.writing.proofs.Loops.{rest, headers_on}
 use Rattle.asking.specs.Asked.{header_asked}
 use Rattle.records.specs.Written.{written_headers}
 use Rattle.records.specs.Placed.{shown_header}
 use Rattle.numbers.specs.Pen.{pen, emit}
 use Rattle.primitives.specs.Step.{map_step, times}
 use lib.ListN.{length}
-use borrow.Author.Rules.{rules}
-use native.Mathlib.Omega.{arith}
 use mathlib.Core.List.{map}
-use mathlib.Core.Path.{◌≡◌, refl, ◌∙◌}
+use mathlib.Core.Path.{◌≡◌}
 use Prim.Native.Nat.{◌+◌}
 use Rattle.writing.proofs.put_headers.Given as goal
 

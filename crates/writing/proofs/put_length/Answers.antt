@@ -1,6 +1,5 @@
 -- `writing::put_length` meets its contract. Assumes nothing.
 use Rattle.writing.proofs.Pens.{length_put_lem}
-use borrow.Author.Rules.{rules}
 use Rattle.writing.proofs.put_length.Goals as goal
 
 pub returns : goal.returns

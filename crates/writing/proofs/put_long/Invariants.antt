@@ -1,11 +1,8 @@
 -- `writing::put_long` meets its contract: the first i bytes are put. Assumes nothing.
 use Prim.Native.Nat.{◌-◌}
-use mathlib.Core.Path.{◌≡◌, refl, ◌∙◌}
-use native.Mathlib.Omega.{arith}
-use borrow.Author.Rules.{rules}
+use mathlib.Core.Path.{◌≡◌}
 use lib.ListN.{length, take, drop}
 use Rattle.numbers.specs.Pen.{pen, emit}
-use Rattle.writing.proofs.Short.{Long, long_is, long_turn, long_done}
 use Rattle.writing.proofs.put_long.Given as goal
 
 abbrev pub invariant-loop-i : goal.invariant-loop-i

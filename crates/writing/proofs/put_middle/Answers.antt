@@ -1,6 +1,5 @@
 -- `writing::put_middle` meets its contract. Assumes nothing.
 use Rattle.writing.proofs.Pens.{three}
-use borrow.Author.Rules.{rules}
 use Rattle.writing.proofs.put_middle.Goals as goal
 
 pub returns : goal.returns

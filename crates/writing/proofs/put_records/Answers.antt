@@ -1,15 +1,8 @@
 -- `writing::put_records` meets its contract. Assumes nothing.
-use Rattle.writing.proofs.Loops.{rest, records_on, records_turn, records_stop, records_end}
-use Rattle.writing.specs.Put.{capped_records}
-use Rattle.asking.specs.Asked.{row_place, record_asked}
+use Rattle.writing.proofs.Loops.{records_turn, records_stop, records_end}
 use Rattle.records.specs.Rows.{tables}
-use Rattle.numbers.specs.Pen.{pen, emit}
-use Rattle.primitives.specs.Step.{map_step, times}
-use lib.ListN.{length}
-use borrow.Author.Rules.{rules}
 use native.Mathlib.Omega.{arith}
 use mathlib.Core.Path.{◌≡◌, refl, ◌∙◌}
-use Prim.Native.Nat.{◌+◌}
 use Rattle.writing.proofs.put_records.Goals as goal
 
 pub loop-left-init : goal.loop-left-init
@@ -24,13 +17,12 @@ returns-in-Refused c =
     records_stop (tables c.args.records.now c.args.headers.now) c.args.source.now _ _ _ _ _ c.put_record.ensures _ _ _ c.loop-left.invariant.0 c.loop-left-test.true c.in-Refused.is
 
 pub loop-left-preserved : goal.loop-left-preserved
-loop-left-preserved c =
-    (
-      records_turn (tables c.args.records.now c.args.headers.now) c.args.source.now _ _ _ _ _ c.put_record.ensures _ _ _ _ c.loop-left.invariant.0
-          c.loop-left-test.true c.in-To.is,
-      omega arith,
-      c.put_record.auto.output ∙ c.loop-left.invariant.2,
-    )
+loop-left-preserved c = (
+  records_turn (tables c.args.records.now c.args.headers.now) c.args.source.now _ _ _ _ _ c.put_record.ensures _ _ _ _ c.loop-left.invariant.0
+      c.loop-left-test.true c.in-To.is,
+  omega arith,
+  c.put_record.auto.output ∙ c.loop-left.invariant.2,
+)
 
 pub shape_of-output : goal.shape_of-output
 shape_of-output c = c.loop-left.invariant.2

@@ -1,14 +1,12 @@
 -- `writing::put_records` meets its contract. Assumes nothing.
-use Rattle.writing.proofs.Loops.{rest, records_on, records_turn, records_stop, records_end}
+use Rattle.writing.proofs.Loops.{rest, records_on}
 use Rattle.writing.specs.Put.{capped_records}
 use Rattle.asking.specs.Asked.{row_place, record_asked}
 use Rattle.records.specs.Rows.{tables}
 use Rattle.numbers.specs.Pen.{pen, emit}
 use Rattle.primitives.specs.Step.{map_step, times}
 use lib.ListN.{length}
-use borrow.Author.Rules.{rules}
-use native.Mathlib.Omega.{arith}
-use mathlib.Core.Path.{◌≡◌, refl, ◌∙◌}
+use mathlib.Core.Path.{◌≡◌}
 use Prim.Native.Nat.{◌+◌}
 use Rattle.writing.proofs.put_records.Given as goal
 

@@ -1,6 +1,5 @@
 -- `writing::put_span` meets its contract. Assumes nothing.
 use Rattle.writing.proofs.Pens.{span_put}
-use borrow.Author.Rules.{rules}
 use Rattle.writing.proofs.put_span.Goals as goal
 
 pub returns : goal.returns

@@ -1,5 +1,4 @@
 -- `writing::put_start` meets its contract. Assumes nothing.
-use borrow.Author.Rules.{rules}
 use Rattle.writing.proofs.Pens.{start_put}
 use Rattle.writing.proofs.put_start.Goals as goal
 

@@ -1,6 +1,5 @@
 -- `writing::shown_size` meets its contract. Assumes nothing.
 use Rattle.writing.proofs.Sizing.{null_size, shown_sized}
-use borrow.Author.Rules.{rules}
 use Rattle.writing.proofs.shown_size.Goals as goal
 
 pub returns-in-Null : goal.returns-in-Null

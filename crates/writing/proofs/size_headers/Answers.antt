@@ -1,12 +1,8 @@
 -- `writing::size_headers` meets its contract. Assumes nothing.
-use Rattle.writing.proofs.Loops.{rest, sizes_on, header_stop, sizes_turn, sizes_end}
-use Rattle.sizes.specs.Sizes.{headers_size, cap, capped}
-use Rattle.asking.specs.Asked.{header_asked}
-use Rattle.primitives.specs.Step.{map_step, times}
-use borrow.Author.Rules.{rules}
+use Rattle.writing.proofs.Loops.{header_stop, sizes_turn, sizes_end}
 use native.Mathlib.Omega.{arith}
 use mathlib.Core.Path.{◌≡◌, refl}
-use Prim.Native.Nat.{◌+◌, ◌≤◌}
+use Prim.Native.Nat.{◌+◌}
 use Rattle.writing.proofs.size_headers.Goals as goal
 
 pub loop-left-init : goal.loop-left-init

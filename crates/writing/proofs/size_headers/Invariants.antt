@@ -1,11 +1,9 @@
 -- `writing::size_headers` meets its contract. Assumes nothing.
-use Rattle.writing.proofs.Loops.{rest, sizes_on, header_stop, sizes_turn, sizes_end}
+use Rattle.writing.proofs.Loops.{rest, sizes_on}
 use Rattle.sizes.specs.Sizes.{headers_size, cap, capped}
 use Rattle.asking.specs.Asked.{header_asked}
 use Rattle.primitives.specs.Step.{map_step, times}
-use borrow.Author.Rules.{rules}
-use native.Mathlib.Omega.{arith}
-use mathlib.Core.Path.{◌≡◌, refl}
+use mathlib.Core.Path.{◌≡◌}
 use Prim.Native.Nat.{◌+◌, ◌≤◌}
 use Rattle.writing.proofs.size_headers.Given as goal
 

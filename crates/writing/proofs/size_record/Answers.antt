@@ -1,7 +1,6 @@
 -- `writing::size_record` meets its contract. Assumes nothing.
 use borrow.Author.Rules.{rules}
 use Prim.Native.Nat.{◌^◌, ◌<◌}
-use mathlib.Core.Logic.{⊎_elim}
 use native.Mathlib.Omega.{arith}
 use Rattle.records.specs.Rows.{tables}
 use Rattle.asking.specs.Answers.{head_of}
@@ -22,8 +21,8 @@ overflow_add-bytes c = omega (arith, c.shown_size.ensures, c.shown_size-in-Got.e
 pub head_size-head-requires : goal.head_size-head-requires
 head_size-head-requires c =
     let few : c.in-Got.r.headers < 2 ^ 63 =
-        let sound : (Sound (tables c.args.records.now c.args.headers.now) c.args.source.now c.args.first (head_of c.in-Got.r)) = head_sound (tables c.args.records.now c.args.headers.now) c.args.source.now _ _ _ _ c.requires c.record_asked.ensures c.in-Got.is in
-        omega (arith, sound.room)
+    let sound : (Sound (tables c.args.records.now c.args.headers.now) c.args.source.now c.args.first (head_of c.in-Got.r)) = head_sound (tables c.args.records.now c.args.headers.now) c.args.source.now _ _ _ _ c.requires c.record_asked.ensures c.in-Got.is in
+    omega (arith, sound.room)
     in
     (omega (arith, c.shown_size.ensures, c.shown_size-in-Got.ensures), few)
 
@@ -35,11 +34,11 @@ size_headers-fields-requires c =
 pub returns-in-Size : goal.returns-in-Size
 returns-in-Size c =
     let sized : (FieldsSized c.args.headers.now c.args.source.now c.args.first c.in-Got.r c.if-r-eq0.fields) =
-        let is = row_head_sized c.in-Got.r (search rules) (search rules) _ _ _ c.shown_size.ensures c.shown_size-in-Got.ensures c.head_size-head.ensures in
-        elim c.if-r-eq0.branch [
-          then-r-eq0 w ↦ head_alone c.in-Got.r _ _ _ _ _ is w.if-r-eq0.true w.fields-is
-          | else-r-eq0 w ↦ fields_sized c.in-Got.r _ _ _ _ _ is _ w.size_headers-fields.ensures w.fields-is
-        ]
+    let is = row_head_sized c.in-Got.r (search rules) (search rules) _ _ _ c.shown_size.ensures c.shown_size-in-Got.ensures c.head_size-head.ensures in
+    elim c.if-r-eq0.branch [
+      | then-r-eq0 w ↦ head_alone c.in-Got.r _ _ _ _ _ is w.if-r-eq0.true w.fields-is
+      | else-r-eq0 w ↦ fields_sized c.in-Got.r _ _ _ _ _ is _ w.size_headers-fields.ensures w.fields-is
+    ]
     in
     row_sized (tables c.args.records.now c.args.headers.now) c.args.source.now _ _ _ c.requires c.record_asked.ensures _ c.in-Got.is _ _
     sized _ c.in-Size.is _ c.span_size.ensures
@@ -47,11 +46,11 @@ returns-in-Size c =
 pub returns-in-Refused : goal.returns-in-Refused
 returns-in-Refused c =
     let sized : (FieldsSized c.args.headers.now c.args.source.now c.args.first c.in-Got.r c.if-r-eq0.fields) =
-        let is = row_head_sized c.in-Got.r (search rules) (search rules) _ _ _ c.shown_size.ensures c.shown_size-in-Got.ensures c.head_size-head.ensures in
-        elim c.if-r-eq0.branch [
-          then-r-eq0 w ↦ head_alone c.in-Got.r _ _ _ _ _ is w.if-r-eq0.true w.fields-is
-          | else-r-eq0 w ↦ fields_sized c.in-Got.r _ _ _ _ _ is _ w.size_headers-fields.ensures w.fields-is
-        ]
+    let is = row_head_sized c.in-Got.r (search rules) (search rules) _ _ _ c.shown_size.ensures c.shown_size-in-Got.ensures c.head_size-head.ensures in
+    elim c.if-r-eq0.branch [
+      | then-r-eq0 w ↦ head_alone c.in-Got.r _ _ _ _ _ is w.if-r-eq0.true w.fields-is
+      | else-r-eq0 w ↦ fields_sized c.in-Got.r _ _ _ _ _ is _ w.size_headers-fields.ensures w.fields-is
+    ]
     in
     row_refused (tables c.args.records.now c.args.headers.now) c.args.source.now _ _ _ c.requires c.record_asked.ensures _ c.in-Got.is _ _
     sized _ _ c.in-Refused.is

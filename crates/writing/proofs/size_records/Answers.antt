@@ -1,13 +1,8 @@
 -- `writing::size_records` meets its contract. Assumes nothing.
-use Rattle.writing.proofs.Loops.{rest, record_sizes_on, record_sizes_start, record_size_small, record_sizes_turn, record_sizes_stop, record_sizes_end}
-use Rattle.sizes.specs.Sizes.{records_size, cap, capped}
-use Rattle.asking.specs.Asked.{row_place, record_asked}
+use Rattle.writing.proofs.Loops.{record_sizes_start, record_size_small, record_sizes_turn, record_sizes_stop, record_sizes_end}
 use Rattle.records.specs.Rows.{tables}
-use Rattle.primitives.specs.Step.{map_step, times}
-use borrow.Author.Rules.{rules}
 use native.Mathlib.Omega.{arith}
 use mathlib.Core.Path.{◌≡◌}
-use Prim.Native.Nat.{◌+◌, ◌≤◌}
 use Rattle.writing.proofs.size_records.Goals as goal
 
 pub loop-left-init : goal.loop-left-init
@@ -22,13 +17,12 @@ returns-in-Refused c =
     record_sizes_stop (tables c.args.records.now c.args.headers.now) c.args.source.now _ _ _ c.size_record.ensures _ _ _ _ c.loop-left.invariant.0 c.loop-left-test.true c.in-Refused.is
 
 pub loop-left-preserved : goal.loop-left-preserved
-loop-left-preserved c =
-    (
-      record_sizes_turn (tables c.args.records.now c.args.headers.now) c.args.source.now _ _ _ c.size_record.ensures _ _ _ _ _ _ c.loop-left.invariant.0
-          c.loop-left-test.true c.in-Size.is c.capped-sum.ensures,
-      omega arith,
-      omega (arith, c.capped-sum.ensures),
-    )
+loop-left-preserved c = (
+  record_sizes_turn (tables c.args.records.now c.args.headers.now) c.args.source.now _ _ _ c.size_record.ensures _ _ _ _ _ _ c.loop-left.invariant.0
+      c.loop-left-test.true c.in-Size.is c.capped-sum.ensures,
+  omega arith,
+  omega (arith, c.capped-sum.ensures),
+)
 
 pub returns : goal.returns
 returns c =

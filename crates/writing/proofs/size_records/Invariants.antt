@@ -1,11 +1,9 @@
 -- `writing::size_records` meets its contract. Assumes nothing.
-use Rattle.writing.proofs.Loops.{rest, record_sizes_on, record_sizes_start, record_size_small, record_sizes_turn, record_sizes_stop, record_sizes_end}
+use Rattle.writing.proofs.Loops.{rest, record_sizes_on}
 use Rattle.sizes.specs.Sizes.{records_size, cap, capped}
 use Rattle.asking.specs.Asked.{row_place, record_asked}
 use Rattle.records.specs.Rows.{tables}
 use Rattle.primitives.specs.Step.{map_step, times}
-use borrow.Author.Rules.{rules}
-use native.Mathlib.Omega.{arith}
 use mathlib.Core.Path.{◌≡◌}
 use Prim.Native.Nat.{◌+◌, ◌≤◌}
 use Rattle.writing.proofs.size_records.Given as goal

@@ -2,7 +2,6 @@
 use Rattle.writing.proofs.Whole.{refused_by_lem, accepts, no_room, put_all}
 use Rattle.records.specs.Rows.{tables}
 use native.Mathlib.Omega.{arith}
-use borrow.Author.Rules.{rules}
 use Rattle.writing.proofs.write_records.Goals as goal
 
 pub returns-then-output-n : goal.returns-then-output-n

@@ -1,6 +1,5 @@
 -- `batches::RecordBatch::check` meets its contract. Assumes nothing.
 use Rattle.batches.proofs.Handed.{check_lent}
-use borrow.Author.Rules.{rules}
 use Rattle.batches.proofs.RecordBatch.check.Goals as goal
 
 pub returns : goal.returns

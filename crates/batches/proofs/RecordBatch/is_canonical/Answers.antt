@@ -1,5 +1,4 @@
 -- `batches::RecordBatch::is_canonical` meets its contract. Assumes nothing.
-use borrow.Author.Rules.{rules}
 use Rattle.batches.proofs.Strictly.{opened_fixed, canonical_more, canonical_refused, canonical_longer, canonical_loose, canonical_marker, canonical_rows}
 use Rattle.batches.proofs.RecordBatch.is_canonical.Goals as goal
 

@@ -1,5 +1,4 @@
 -- `listing::Line::byte` meets its contract. Assumes nothing.
-use borrow.Author.Rules.{rules}
 use Rattle.listing.proofs.Lines.{pushed_full, pushed_fits}
 use Rattle.listing.proofs.Line.byte.Goals as goal
 

@@ -1,7 +1,6 @@
 -- `listing::Line::number` meets its contract, digit by digit as `Spelled` has it. Assumes nothing.
-use borrow.Author.Rules.{rules}
 use native.Mathlib.Omega.{arith}
-use Rattle.listing.proofs.Digits.{Spelled, begin, some_before, again, last_within, done}
+use Rattle.listing.proofs.Digits.{begin, some_before, again, last_within, done}
 use Rattle.listing.proofs.Lines.{byte_onto}
 use Rattle.listing.specs.Writing.{written}
 use mathlib.Core.Path.{ap, ◌∙◌}

@@ -1,5 +1,4 @@
 -- `listing::Line::signed` meets its contract. Assumes nothing.
-use borrow.Author.Rules.{rules}
 use native.Mathlib.Omega.{arith}
 use mathlib.Core.Path.{ap, ◌∙◌}
 use lib.IntN.{ℤ}

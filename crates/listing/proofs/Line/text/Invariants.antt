@@ -1,11 +1,8 @@
 -- `listing::Line::text` meets its contract: what is left of the bytes is still to be written. Assumes nothing.
-use borrow.Author.Rules.{rules}
 use Prim.Native.Nat.{◌-◌, ◌≤◌}
-use mathlib.Core.Path.{◌≡◌, refl, ◌∙◌}
-use native.Mathlib.Omega.{arith}
+use mathlib.Core.Path.{◌≡◌}
 use lib.ListN.{length, drop}
 use Rattle.listing.specs.Writing.{written}
-use Rattle.listing.proofs.Lines.{written_again, written_all}
 use Rattle.listing.proofs.Line.text.Given as goal
 
 abbrev pub invariant-loop-i : goal.invariant-loop-i

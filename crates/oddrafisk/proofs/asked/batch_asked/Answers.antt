@@ -1,5 +1,4 @@
 -- `oddrafisk::asked::batch_asked` meets its contract. Assumes nothing.
-use borrow.Author.Rules.{rules}
 use Rattle.oddrafisk.proofs.Asking.{unfit_asked, fit_so, kind_wrong, kind_got}
 use mathlib.Core.Path.{ap}
 use mathlib.Core.Bool.{not}

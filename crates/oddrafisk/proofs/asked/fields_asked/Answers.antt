@@ -1,6 +1,5 @@
 -- `oddrafisk::asked::fields_asked` meets its contract. Assumes nothing.
 use mathlib.Core.List.{List}
-use borrow.Author.Rules.{rules}
 use lib.IntN.{pos, ℤ}
 use lib.ListN.{get_or}
 use mir.Syntax.{w16, w32, w64}

@@ -1,5 +1,4 @@
 -- `oddrafisk::asked::fields_fit` meets its contract. Assumes nothing.
-use borrow.Author.Rules.{rules}
 use Rattle.oddrafisk.proofs.Fitting.{widths_wrong, flags_right}
 use Rattle.oddrafisk.proofs.asked.fields_fit.Goals as goal
 

@@ -1,5 +1,4 @@
 -- `oddrafisk::asked::time_asked` meets its contract. Assumes nothing.
-use borrow.Author.Rules.{rules}
 use Rattle.oddrafisk.proofs.Saying.{time_wrong, time_told}
 use mathlib.Core.Path.{ap}
 use mathlib.Core.Bool.{not}

@@ -1,6 +1,5 @@
 -- `oddrafisk::said::counts` meets its contract. Assumes nothing.
 use mathlib.Core.Path.{refl}
-use borrow.Author.Rules.{rules}
 use Rattle.oddrafisk.proofs.Listed.{count_back, listed}
 use Rattle.oddrafisk.proofs.said.counts.Goals as goal
 

@@ -1,6 +1,5 @@
 -- `oddrafisk::said::kind_number` meets its contract. Assumes nothing.
 use mathlib.Core.Path.{sym, ap, ◌∙◌}
-use borrow.Author.Rules.{rules}
 use Rattle.batches.specs.declared.ControlBatchOrRecords.{ControlBatchOrRecords}
 use Rattle.batches.specs.Answers.{view_kind}
 use Rattle.oddrafisk.specs.Entries.{kind_entry}

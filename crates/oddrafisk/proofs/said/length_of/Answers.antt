@@ -1,7 +1,6 @@
 -- `oddrafisk::said::length_of` meets its contract. Assumes nothing.
 use Prim.Native.Nat.{◌≤◌}
 use mathlib.Core.Path.{sym, ap, subst, refl, ◌∙◌}
-use borrow.Author.Rules.{rules}
 use lib.IntN.{pos}
 use Rattle.writing.specs.declared.Written.{Written}
 use Rattle.writing.specs.Answers.{view_written}

@@ -1,6 +1,5 @@
 -- `oddrafisk::said::marker_number` meets its contract. Assumes nothing.
 use mathlib.Core.Path.{sym, ap}
-use borrow.Author.Rules.{rules}
 use Rattle.markers.specs.declared.ControlBatchRecord.{ControlBatchRecord}
 use Rattle.markers.specs.Markers.{view_marker}
 use Rattle.batches.specs.Answers.{of_marker}

@@ -1,6 +1,5 @@
 -- `oddrafisk::said::said_of_check` meets its contract. Assumes nothing.
 use mathlib.Core.Path.{refl}
-use borrow.Author.Rules.{rules}
 use Rattle.batches.specs.Answers.{view_check}
 use Rattle.oddrafisk.proofs.Saying.{says_so, counted_so, counts_so}
 use Rattle.oddrafisk.proofs.said.said_of_check.Goals as goal

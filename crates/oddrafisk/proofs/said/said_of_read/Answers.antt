@@ -1,6 +1,5 @@
 -- `oddrafisk::said::said_of_read` meets its contract. Assumes nothing.
 use mathlib.Core.Path.{refl}
-use borrow.Author.Rules.{rules}
 use Rattle.batches.specs.Answers.{view_read}
 use Rattle.oddrafisk.proofs.Saying.{says_so, counted_so, counts_so}
 use Rattle.oddrafisk.proofs.said.said_of_read.Goals as goal

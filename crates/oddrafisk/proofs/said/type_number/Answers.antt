@@ -1,6 +1,5 @@
 -- `oddrafisk::said::type_number` meets its contract. Assumes nothing.
 use mathlib.Core.Path.{sym, ap}
-use borrow.Author.Rules.{rules}
 use Rattle.layout.specs.declared.RecordBatchTimestampType.{RecordBatchTimestampType}
 use Rattle.layout.specs.Fixed.{view_type}
 use Rattle.oddrafisk.specs.Entries.{type_entry}
