@@ -1,5 +1,7 @@
 // Runs the libraries `batches`, `writing` and `canonical` on the cases of the text on standard input, whose
 // expectations come from elsewhere. It prints a line for each group of cases.
+#![tactic(auto)]
+
 mod agreement;
 mod batch;
 mod exact;
@@ -38,12 +40,7 @@ fn run(rt: &impl Print, text: &[u8]) -> io::Result<Tally> {
     groups.ended(rt)
 }
 
-fn run_line(
-    rt: &impl Print,
-    groups: Groups,
-    line: &[u8],
-    space: &mut [u8],
-) -> io::Result<Groups> {
+fn run_line(rt: &impl Print, groups: Groups, line: &[u8], space: &mut [u8]) -> io::Result<Groups> {
     match Line::of(line) {
         Line::Heading => groups.headed(rt, line),
         Line::Remark => Ok(groups),

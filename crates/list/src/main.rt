@@ -1,4 +1,6 @@
 // Lists the batches of one file, which is read from standard input.
+#![tactic(auto)]
+
 ghost use Rattle.std.specs.Prelude.{◌≡◌, length};
 ghost use Rattle.std.specs.Counts.{IsPrefixLen};
 
@@ -61,12 +63,7 @@ fn read_input(input: &mut impl Read, file: &mut [u8]) -> Input
 }
 
 // Prints the lines of a file. The tables are the rows that a batch may have.
-fn list(
-    rt: &impl Print,
-    bytes: &[u8],
-    records: &mut [i64],
-    headers: &mut [i64],
-) -> io::Result<()> {
+fn list(rt: &impl Print, bytes: &[u8], records: &mut [i64], headers: &mut [i64]) -> io::Result<()> {
     let first = list_first(bytes);
     print(rt, first.line)?;
     let next = first.next;

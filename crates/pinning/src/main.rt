@@ -1,5 +1,7 @@
 // Writes the pinning log of a railway's ticketing balancer to standard output. A record's key is a cookie and its value
 // the server that the cookie is pinned to; a null value withdraws the pinning.
+#![tactic(auto)]
+
 ghost use Rattle.std.specs.Prelude.{◌≤◌, ◌<◌, ◌≡◌, length};
 
 use batches::{ControlBatchOrRecords, RecordBatch};
@@ -184,19 +186,47 @@ fn pin(rt: &impl Print, records: &[i64; TABLE]) -> io::Result<()> {
     let b = batch(1, NOBODY, CREATED);
     print(rt, b, ControlBatchOrRecords::Records(3), records, 4, &ZONES)?;
     let b = batch(2, NOBODY, CREATED);
-    print(rt, b, ControlBatchOrRecords::Records(2), records, 7, &TO_NORTH)?;
+    print(
+        rt,
+        b,
+        ControlBatchOrRecords::Records(2),
+        records,
+        7,
+        &TO_NORTH,
+    )?;
     let b = batch(3, NOBODY, CREATED);
-    print(rt, b, ControlBatchOrRecords::Records(2), records, 9, &EXPIRY)
+    print(
+        rt,
+        b,
+        ControlBatchOrRecords::Records(2),
+        records,
+        9,
+        &EXPIRY,
+    )
 }
 
 // Two transactions, each with the marker that ends it.
 fn move_together(rt: &impl Print, records: &[i64; TABLE]) -> io::Result<()> {
     let b = batch(4, MOVING, CREATED);
-    print(rt, b, ControlBatchOrRecords::Records(3), records, 11, &MOVES)?;
+    print(
+        rt,
+        b,
+        ControlBatchOrRecords::Records(3),
+        records,
+        11,
+        &MOVES,
+    )?;
     let b = batch(5, MARKING, CREATED);
     print(rt, b, COMMIT, records, 0, &NONE)?;
     let b = batch(6, MOVING_ON, CREATED);
-    print(rt, b, ControlBatchOrRecords::Records(2), records, 14, &MOVES)?;
+    print(
+        rt,
+        b,
+        ControlBatchOrRecords::Records(2),
+        records,
+        14,
+        &MOVES,
+    )?;
     let b = batch(7, MARKING, CREATED);
     print(rt, b, ABORT, records, 0, &NONE)
 }
@@ -211,7 +241,14 @@ fn go_on(rt: &impl Print, records: &[i64; TABLE]) -> io::Result<()> {
     let b = batch(10, NOBODY, CREATED);
     print(rt, b, ControlBatchOrRecords::Records(3), records, 19, &NONE)?;
     let b = batch(11, NOBODY, CREATED);
-    print(rt, b, ControlBatchOrRecords::Records(2), records, 22, &TO_SOUTH)
+    print(
+        rt,
+        b,
+        ControlBatchOrRecords::Records(2),
+        records,
+        22,
+        &TO_SOUTH,
+    )
 }
 
 // The batch with the extent of this number.

@@ -142,12 +142,7 @@ fn print_headers(
 }
 
 // The end of a line: what four numbers of a row from `at` on stand for.
-fn print_key_and_value(
-    rt: &impl Print,
-    source: &[u8],
-    row: &[i64],
-    at: usize,
-) -> io::Result<()>
+fn print_key_and_value(rt: &impl Print, source: &[u8], row: &[i64], at: usize) -> io::Result<()>
     requires { at + 4 ≤ length row.now }
 {
     print_bytes(rt, source, row[at], row[at + 1])?;

@@ -2,6 +2,8 @@
 // mode, and prints the answers, which have to be the Rust's: compare/store makes the file stdin of cases, none of them
 // a control batch that the Rust or this mode accepts, and, from the Rust alone, the file stdout. Cases stand one after
 // the other, each after its length in four bytes; they have at most 65,536 bytes in all.
+#![tactic(auto)]
+
 mod answers;
 mod text;
 

@@ -1,6 +1,8 @@
 // Runs the libraries `numbers`, `primitives`, `crc32c`, `utf8`, `records` and `reading`, and of `batches` the size of a
 // batch, on cases whose expectations come from elsewhere: those of the text on standard input, and all strings of one
 // byte and of two. It prints a line for each group of cases.
+#![tactic(auto)]
+
 mod agreement;
 mod characters;
 mod checksums;
@@ -47,12 +49,7 @@ fn run(rt: &impl Print, text: &[u8]) -> io::Result<Tally> {
     groups.ended(rt)
 }
 
-fn run_line(
-    rt: &impl Print,
-    groups: Groups,
-    line: &[u8],
-    space: &mut [u8],
-) -> io::Result<Groups> {
+fn run_line(rt: &impl Print, groups: Groups, line: &[u8], space: &mut [u8]) -> io::Result<Groups> {
     match Line::of(line) {
         Line::Heading => groups.headed(rt, line),
         Line::Remark => Ok(groups),
