@@ -17,13 +17,9 @@ ABOUT = """\
 -- come from the sentences and tables of document 01 and from bindings/c/oddrafisk.h, by Python's arithmetic, and from no
 -- other definition: these are plain data alone.
 use Prim.Native.Char.{code}
-use Prim.Native.Nat.{ℕ, zero, suc, _+_, _-_, _*_}
-use Prim.Native.String.{String, [] as noText, _∷_ as _before_}
-use mathlib.Core.Bool.{Bool, true, false}
-use mathlib.Core.Option.{Option, none, some}
-use mathlib.Core.List.{List, [], _∷_, _++_}
-use lib.Dec.{ltb}
-use lib.IntN.{ℤ, pos, negsuc}
+use Rattle.std.specs.Prelude.{ℕ, zero, suc, ◌+◌, ◌-◌, ◌*◌, Bool, true, false, List, [], ◌∷◌, ◌++◌, ltb, ℤ, pos, negsuc}
+use Prim.Native.String.{String, [] as noText, ◌∷◌ as ◌before◌}
+use Rattle.std.proofs.Math.Option.{Option, none, some}
 
 -- ---- how bytes and numbers are spelled here
 
@@ -70,41 +66,41 @@ pub record PlainHeader : Type 0 where
 
 -- `none` is null
 pub record PlainRecord : Type 0 where
-  pub timestampDelta : ℤ
-  pub offsetDelta : ℤ
+  pub timestamp_delta : ℤ
+  pub offset_delta : ℤ
   pub key : Option (List ℕ)
   pub value : Option (List ℕ)
   pub headers : List PlainHeader
 
 pub data Holds : Type 0 where
-  anAbort : Holds
-  aCommit : Holds
-  theRecords : List PlainRecord → Holds
+  an_abort : Holds
+  a_commit : Holds
+  the_records : List PlainRecord → Holds
 
 pub record Example : Type 0 where
   -- all bytes of the batch
   pub bytes : List ℕ
   -- document 01, Fixed fields
-  pub baseOffset : ℤ
-  pub batchLength : ℕ
-  pub partitionLeaderEpoch : ℤ
+  pub base_offset : ℤ
+  pub batch_length : ℕ
+  pub partition_leader_epoch : ℤ
   pub crc : ℕ
   pub attributes : ℕ
-  pub lastOffsetDelta : ℤ
-  pub firstTimestamp : ℤ
-  pub maxTimestamp : ℤ
-  pub producerId : ℤ
-  pub producerEpoch : ℤ
-  pub baseSequence : ℤ
+  pub last_offset_delta : ℤ
+  pub first_timestamp : ℤ
+  pub max_timestamp : ℤ
+  pub producer_id : ℤ
+  pub producer_epoch : ℤ
+  pub base_sequence : ℤ
   pub count : ℤ
   -- what bits 3 and 4 of the attributes say
-  pub logAppend : Bool
+  pub log_append : Bool
   pub transactional : Bool
   -- what follows the fixed fields
   pub holds : Holds
   -- document 01, Tables: the rows that are filled, eight numbers a record and four a header
-  pub recordRows : List ℤ
-  pub headerRows : List ℤ
+  pub record_rows : List ℤ
+  pub header_rows : List ℤ
   -- document 01, Record time: of each record
   pub times : List (Option ℤ)
   -- what the writer gives for the batch: these very bytes, where they are canonical; where a marker stands alone, what
@@ -126,8 +122,8 @@ pub record Refusal : Type 0 where
 -- rows that no batch has, for so many records, and document 01's number
 pub record RowRefusal : Type 0 where
   pub source : List ℕ
-  pub recordRows : List ℤ
-  pub headerRows : List ℤ
+  pub record_rows : List ℤ
+  pub header_rows : List ℤ
   pub count : ℕ
   pub number : ℕ
 
@@ -141,11 +137,8 @@ ABOUT_KEYED = """\
 -- Worked control batches as brokers write them, written by tools/worked.py keyed: the marker stands in the key of a
 -- record. The values come from the tables of document 01, from Kafka's page and from bindings/c/oddrafisk.h, by
 -- Python's arithmetic, and from no other definition.
-use Prim.Native.Nat.{ℕ}
-use mathlib.Core.Bool.{true, false}
-use mathlib.Core.List.{List, [], _∷_}
-use lib.IntN.{pos}
-use Rattle·examples.specs.Examples.{text, hex, minus, anAbort, aCommit, Example}
+use Rattle.std.specs.Prelude.{ℕ, true, false, List, [], ◌∷◌, pos}
+use Rattle.examples.specs.Examples.{text, hex, minus, an_abort, a_commit, Example}
 
 -- a stored batch, and what it is converted to
 pub record Stored : Type 0 where
@@ -157,11 +150,11 @@ SAMPLES = pathlib.Path(__file__).resolve().parent.parent / "samples"
 
 # Document 01, "Fixed fields", in their order.
 FIXED = struct.Struct(">qiibIHiqqqhii")
-NAMES = """baseOffset batchLength partitionLeaderEpoch magic crc attributes lastOffsetDelta firstTimestamp maxTimestamp
-producerId producerEpoch baseSequence count""".split()
+NAMES = """base_offset batch_length partition_leader_epoch magic crc attributes last_offset_delta first_timestamp max_timestamp
+producer_id producer_epoch base_sequence count""".split()
 # Those that are handed out and in.
-FIELDS = [name for name in NAMES if name not in ("batchLength", "magic", "crc", "attributes", "count")]
-UNSIGNED = "batchLength", "crc", "attributes"
+FIELDS = [name for name in NAMES if name not in ("batch_length", "magic", "crc", "attributes", "count")]
+UNSIGNED = "batch_length", "crc", "attributes"
 UNCOUNTED, CRC, CHECKED, BODY = 12, 17, 21, 61
 LOG_APPEND, TRANSACTIONAL, CONTROL, HIGHER = 8, 16, 32, 0xFFC0
 ABORT, COMMIT = bytes.fromhex("00000000"), bytes.fromhex("00000001")
@@ -172,25 +165,25 @@ LONGEST, TOO_LONG, HEADING = 65536, "file too long\n", "base bytes kind records 
 # bindings/c/oddrafisk.h, kinds.
 KINDS = {"records": 0, "abort": 1, "commit": 2}
 
-Record = namedtuple("Record", "timestampDelta offsetDelta key value headers")
+Record = namedtuple("Record", "timestamp_delta offset_delta key value headers")
 Batch = namedtuple("Batch", "fixed marker records record_rows header_rows lines")
 
 # Numbers whose bytes are all different, so that a wrong order or place shows.
 UNLIKE = dict(
-    baseOffset=0x0102030405060708, partitionLeaderEpoch=0x11121314, lastOffsetDelta=0x21222324,
-    firstTimestamp=0x3132333435363738, maxTimestamp=0x4142434445464748, producerId=0x5152535455565758,
-    producerEpoch=0x6162, baseSequence=0x71727374,
+    base_offset=0x0102030405060708, partition_leader_epoch=0x11121314, last_offset_delta=0x21222324,
+    first_timestamp=0x3132333435363738, max_timestamp=0x4142434445464748, producer_id=0x5152535455565758,
+    producer_epoch=0x6162, base_sequence=0x71727374,
 )
 UNLIKE_RECORDS = [
     Record(-1000000007, 70000, b"key", b"value", [(b"h", b"header"), ("\u00e9".encode(), b"four")]),
     Record(300, -2, b"another", b"\0\xff at last", [(b"no value", b""), (b"eleven keys", b"nine here")]),
 ]
 NEGATIVE = {name: -1 - place for place, name in enumerate(FIELDS)}
-LATE = {**UNLIKE, "firstTimestamp": LARGEST}
+LATE = {**UNLIKE, "first_timestamp": LARGEST}
 # C-24's worked batch.
 HIGH = dict(
-    baseOffset=5, partitionLeaderEpoch=3, lastOffsetDelta=0, firstTimestamp=1000, maxTimestamp=1000, producerId=9,
-    producerEpoch=1, baseSequence=-1,
+    base_offset=5, partition_leader_epoch=3, last_offset_delta=0, first_timestamp=1000, max_timestamp=1000, producer_id=9,
+    producer_epoch=1, base_sequence=-1,
 )
 LATE_RECORDS = [Record(1, 0, None, b"", []), Record(-1, 1, b"", None, [(b"", b"k")])]
 
@@ -282,7 +275,7 @@ def sized(data, count=1):
 
 def record_bytes(record, attributes=0, count=1):
     """The record with its numbers in at least `count` bytes each."""
-    fields = bytes([attributes]) + varying(record.timestampDelta, count) + varying(record.offsetDelta, count)
+    fields = bytes([attributes]) + varying(record.timestamp_delta, count) + varying(record.offset_delta, count)
     fields += sized(record.key, count) + sized(record.value, count) + varying(len(record.headers), count)
     return sized(fields + b"".join(sized(part, count) for header in record.headers for part in header), count)
 
@@ -292,8 +285,8 @@ def marker_record(marker):
 
 
 def batch_bytes(fields, body, count, attributes=0, **changed):
-    """The fixed fields and the body; batchLength, magic and crc are right where nothing else is said."""
-    values = {"magic": 2, "crc": 0, "batchLength": BODY + len(body) - UNCOUNTED, **fields}
+    """The fixed fields and the body; batch_length, magic and crc are right where nothing else is said."""
+    values = {"magic": 2, "crc": 0, "batch_length": BODY + len(body) - UNCOUNTED, **fields}
     values.update({"count": count, "attributes": attributes, **changed})
     data = bytearray(FIXED.pack(*(values[name] for name in NAMES)) + body)
     data[CRC:CHECKED] = struct.pack(">I", crc32c(data[CHECKED:]))
@@ -355,7 +348,7 @@ class Reader:
 
 def decoded(data, keyed=False):
     fixed = dict(zip(NAMES, FIXED.unpack_from(data)))
-    assert fixed["magic"] == 2 and UNCOUNTED + fixed["batchLength"] == len(data)
+    assert fixed["magic"] == 2 and UNCOUNTED + fixed["batch_length"] == len(data)
     assert fixed["crc"] == crc32c(data[CHECKED:]) and fixed["attributes"] % 8 == 0
     is_control = fixed["attributes"] & CONTROL
     if is_control and not keyed:
@@ -390,7 +383,7 @@ def entries(batch, size):
 
 def line(batch, size):
     return "%d %d %s %d %d\n" % (
-        batch.fixed["baseOffset"], size, batch.marker or "records", len(batch.records), len(batch.header_rows))
+        batch.fixed["base_offset"], size, batch.marker or "records", len(batch.records), len(batch.header_rows))
 
 
 # ---- text
@@ -459,8 +452,8 @@ def all_lines(data):
 def plain_record(record):
     header = "record { key = %s; value = %s }"
     return of_fields({
-        "timestampDelta": number(record.timestampDelta),
-        "offsetDelta": number(record.offsetDelta),
+        "timestamp_delta": number(record.timestamp_delta),
+        "offset_delta": number(record.offset_delta),
         "key": nullable(record.key),
         "value": nullable(record.value),
         "headers": in_record([header % (octets(key), octets(value)) for key, value in record.headers]),
@@ -471,19 +464,19 @@ def example(name, data, about, keyed=False):
     """The bytes under the name, what they hold, and the example."""
     batch = decoded(data, keyed)
     given, bits = rewritten(batch, keyed), batch.fixed["attributes"]
-    times = [batch.fixed["firstTimestamp"] + record.timestampDelta for record in batch.records]
+    times = [batch.fixed["first_timestamp"] + record.timestamp_delta for record in batch.records]
     yield private(name, "List ℕ", hexed(fixed_lines(data) + batch.lines), about)
     if not batch.marker:
-        yield private(name + "Records", "List PlainRecord", several(map(plain_record, batch.records), 4))
-    yield defined(name + "Example", "Example", of_fields({
+        yield private(name + "_records", "List PlainRecord", several(map(plain_record, batch.records), 4))
+    yield defined(name + "_example", "Example", of_fields({
         "bytes": name,
         **{field: number(n) for field, n in batch.fixed.items() if field != "magic"},
         **{field: str(batch.fixed[field]) for field in UNSIGNED},
-        "logAppend": str(bool(bits & LOG_APPEND)).lower(),
+        "log_append": str(bool(bits & LOG_APPEND)).lower(),
         "transactional": str(bool(bits & TRANSACTIONAL)).lower(),
-        "holds": {"abort": "anAbort", "commit": "aCommit"}.get(batch.marker, "theRecords %sRecords" % name),
-        "recordRows": in_record([row(r) for r in batch.record_rows]),
-        "headerRows": in_record([row(r) for r in batch.header_rows]),
+        "holds": {"abort": "an_abort", "commit": "a_commit"}.get(batch.marker, "the_records %s_records" % name),
+        "record_rows": in_record([row(r) for r in batch.record_rows]),
+        "header_rows": in_record([row(r) for r in batch.header_rows]),
         "times": " ∷ ".join(["some (%s)" % number(t) if LEAST <= t <= LARGEST else "none" for t in times] + ["[]"]),
         "written": name if given == data else hexed(fixed_lines(given) + decoded(given, keyed).lines, 10),
         "entries": in_record([row(four) for four in entries(batch, len(data))]),
@@ -506,14 +499,14 @@ def refusal(data, count, number, needed=0):
 
 def batch_refusals(data):
     """Those before the records or the marker; `data` is a batch with no fault."""
-    shortest = bytearray(batch_bytes(UNLIKE, b"", 0, batchLength=9)[:CHECKED])
+    shortest = bytearray(batch_bytes(UNLIKE, b"", 0, batch_length=9)[:CHECKED])
     shortest[CRC:] = struct.pack(">I", crc32c(b""))
     cases = [
         (data[:11], 1, "fewer than 12 bytes"),
         (data[:16], 1, "fewer than 17"),
         (data[:-1], 1, "one fewer than batchLength asks for"),
-        (batch_bytes(UNLIKE, b"", 0, batchLength=8), 2, "batchLength is 8"),
-        (batch_bytes(UNLIKE, b"", 0, batchLength=-1), 2, "batchLength is -1"),
+        (batch_bytes(UNLIKE, b"", 0, batch_length=8), 2, "batchLength is 8"),
+        (batch_bytes(UNLIKE, b"", 0, batch_length=-1), 2, "batchLength is -1"),
         (batch_bytes(UNLIKE, b"", 0, magic=1), 3, "magic is 1"),
         (data[:-1] + bytes([data[-1] ^ 1]), 4, "a bit of the last byte is another"),
         (batch_bytes(UNLIKE, b"", 0, 5), 5, "codec 5"),
@@ -541,8 +534,8 @@ def row_refusals():
     for records, headers, count, number, about in ROW_REFUSALS:
         yield of_fields({
             "source": "source",
-            "recordRows": in_record([row({**ROW, **changed}.values()) for changed in records]),
-            "headerRows": in_record([row({**HEADER, **changed}.values()) for changed in headers]),
+            "record_rows": in_record([row({**ROW, **changed}.values()) for changed in records]),
+            "header_rows": in_record([row({**HEADER, **changed}.values()) for changed in headers]),
             "count": str(count),
             "number": str(number),
         }), about
@@ -621,7 +614,7 @@ def keyed_parts():
     yield ABOUT_KEYED
     for name, (data, about) in batches.items():
         yield from example(name, data, about, keyed=True)
-    yield defined("keyedExamples", "List Example", " ∷ ".join([*(batch + "Example" for batch in batches), "[]"]))
+    yield defined("keyed_examples", "List Example", " ∷ ".join([*(batch + "_example" for batch in batches), "[]"]))
     about = "stored control batches whose marker stands alone, and a keyed one"
     yield table("conversions", "Stored", conversions(), about)
 
@@ -650,22 +643,22 @@ def parts():
     yield "-- ---- worked batches\n"
     for name, (data, about) in {**records, **markers}.items():
         yield from example(name, data, about)
-    for name, batches in ("recordExamples", records), ("markerExamples", markers):
-        yield defined(name, "List Example", " ∷ ".join([*(batch + "Example" for batch in batches), "[]"]))
-    yield defined("examples", "List Example", "recordExamples ++ markerExamples")
-    headed = [batch + "Example" for batch in records if decoded(records[batch][0]).header_rows]
-    yield defined("headedExamples", "List Example", " ∷ ".join([*headed, "[]"]), "those whose records have headers")
+    for name, batches in ("record_examples", records), ("marker_examples", markers):
+        yield defined(name, "List Example", " ∷ ".join([*(batch + "_example" for batch in batches), "[]"]))
+    yield defined("examples", "List Example", "record_examples ++ marker_examples")
+    headed = [batch + "_example" for batch in records if decoded(records[batch][0]).header_rows]
+    yield defined("headed_examples", "List Example", " ∷ ".join([*headed, "[]"]), "those whose records have headers")
     yield "-- ---- refusals\n"
-    yield table("batchRefusals", "Refusal", batch_refusals(records["kcat"][0]), "before the records or the marker")
-    yield table("recordRefusals", "Refusal", record_refusals(), "in records")
-    yield table("markerRefusals", "Refusal", marker_refusals(), "in a marker")
-    yield defined("refusals", "List Refusal", "batchRefusals ++ (recordRefusals ++ markerRefusals)")
+    yield table("batch_refusals", "Refusal", batch_refusals(records["kcat"][0]), "before the records or the marker")
+    yield table("record_refusals", "Refusal", record_refusals(), "in records")
+    yield table("marker_refusals", "Refusal", marker_refusals(), "in a marker")
+    yield defined("refusals", "List Refusal", "batch_refusals ++ (record_refusals ++ marker_refusals)")
     yield private("source", "List ℕ", octets(SOURCE))
-    yield table("rowRefusals", "RowRefusal", row_refusals(), "in rows")
+    yield table("row_refusals", "RowRefusal", row_refusals(), "in rows")
     yield "-- ---- listings\n"
     yield defined("longest", "ℕ", str(LONGEST), "the longest file that is listed, and what is said of a longer one")
-    yield defined("tooLongText", "List ℕ", "text " + quoted(TOO_LONG))
-    yield defined("headingText", "List ℕ", "text " + quoted(HEADING), "what is said first of any other")
+    yield defined("too_long_text", "List ℕ", "text " + quoted(TOO_LONG))
+    yield defined("heading_text", "List ℕ", "text " + quoted(HEADING), "what is said first of any other")
     yield table("listings", "Listed", listings({**records, **markers}), "files")
 
 

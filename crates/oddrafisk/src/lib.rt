@@ -22,8 +22,7 @@ use said::{conversion_number, length_of, number_of, said_of_check, said_of_read,
 use writing::Written;
 
 // What the bytes begin with, by themselves.
-#[unsafe(no_mangle)]
-pub extern "C" fn oddrafisk_check(mode: u32, bytes: &[u8], answer: &mut [i64; 16]) -> u32
+pub fn oddrafisk_check(mode: u32, bytes: &[u8], answer: &mut [i64; 16]) -> u32
     ensures { CheckPromise (mode_of mode) bytes.now (record { number = result; answer = answer.new }) }
 {
     let said = said_of_check(RecordBatch::check(mode_of(mode), bytes));
@@ -33,8 +32,7 @@ pub extern "C" fn oddrafisk_check(mode: u32, bytes: &[u8], answer: &mut [i64; 16
 }
 
 // The same, and the rows of its records and of their headers.
-#[unsafe(no_mangle)]
-pub extern "C" fn oddrafisk_read(
+pub fn oddrafisk_read(
     mode: u32,
     bytes: &[u8],
     records: &mut [i64],
@@ -50,8 +48,7 @@ pub extern "C" fn oddrafisk_read(
 }
 
 // How many bytes a batch has when it is written.
-#[unsafe(no_mangle)]
-pub extern "C" fn oddrafisk_measure(
+pub fn oddrafisk_measure(
     mode: u32,
     batch: &[i64; 16],
     codec: i64,
@@ -68,8 +65,7 @@ pub extern "C" fn oddrafisk_measure(
 }
 
 // Writes a batch to the output's start.
-#[unsafe(no_mangle)]
-pub extern "C" fn oddrafisk_write(
+pub fn oddrafisk_write(
     mode: u32,
     batch: &[i64; 16],
     codec: i64,
@@ -95,8 +91,7 @@ pub extern "C" fn oddrafisk_write(
 }
 
 // Writes what a stored batch is converted to, to the output's start.
-#[unsafe(no_mangle)]
-pub extern "C" fn oddrafisk_convert(bytes: &[u8], output: &mut [u8], answer: &mut [i64; 2]) -> u32
+pub fn oddrafisk_convert(bytes: &[u8], output: &mut [u8], answer: &mut [i64; 2]) -> u32
     ensures { ConvertPromise bytes.now output.old (record { said = record { number = result; answer = answer.new }; output = output.new }) }
 {
     let converted = convert(bytes, output);
@@ -105,8 +100,7 @@ pub extern "C" fn oddrafisk_convert(bytes: &[u8], output: &mut [u8], answer: &mu
 }
 
 // Whether the bytes, all of them, are one batch as the writer gives it.
-#[unsafe(no_mangle)]
-pub extern "C" fn oddrafisk_is_canonical(mode: u32, bytes: &[u8]) -> u32
+pub fn oddrafisk_is_canonical(mode: u32, bytes: &[u8]) -> u32
     ensures { CanonicalPromise (mode_of mode) bytes.now result }
 {
     if RecordBatch::is_canonical(mode_of(mode), bytes) {
@@ -116,8 +110,7 @@ pub extern "C" fn oddrafisk_is_canonical(mode: u32, bytes: &[u8]) -> u32
 }
 
 // The time of a record with this delta, in a batch of this type and these times; or that there is none.
-#[unsafe(no_mangle)]
-pub extern "C" fn oddrafisk_record_time(
+pub fn oddrafisk_record_time(
     timestamp_type: i64,
     first_timestamp: i64,
     max_timestamp: i64,
@@ -139,8 +132,7 @@ pub extern "C" fn oddrafisk_record_time(
 }
 
 // CRC-32C.
-#[unsafe(no_mangle)]
-pub extern "C" fn oddrafisk_crc32c(bytes: &[u8]) -> u32
+pub fn oddrafisk_crc32c(bytes: &[u8]) -> u32
     ensures { Crc32cPromise bytes.now result }
 {
     crc32c(bytes)
@@ -148,8 +140,7 @@ pub extern "C" fn oddrafisk_crc32c(bytes: &[u8]) -> u32
 
 // The version of this library, by which a caller finds that an archive is not its header's: major, minor and patch as
 // one number.
-#[unsafe(no_mangle)]
-pub extern "C" fn oddrafisk_version() -> u32
+pub fn oddrafisk_version() -> u32
     ensures { VersionPromise result }
 {
     4000
