@@ -61,7 +61,7 @@ fn written_for_target() -> Result<(&'static str, &'static str), String> {
     let word = |name| env::var(name).unwrap_or_default();
     let (processor, system) = (word("CARGO_CFG_TARGET_ARCH"), word("CARGO_CFG_TARGET_OS"));
     match (processor.as_str(), system.as_str()) {
-        ("x86_64", "linux") => Ok(("target/staticlib", "rt staticlib oddrafisk")),
+        ("x86_64", "linux") => Ok(("target/staticlib", "tools/staticlib")),
         ("aarch64", "linux") => Ok(("target/processors/aarch64", "compare/processors/archives")),
         _ => Err(format!(
             "the repository writes {ARCHIVE} for Linux on x86-64 and AArch64. For {}, set \
