@@ -150,8 +150,8 @@ SAMPLES = pathlib.Path(__file__).resolve().parent.parent / "samples"
 
 # Document 01, "Fixed fields", in their order.
 FIXED = struct.Struct(">qiibIHiqqqhii")
-NAMES = """base_offset batch_length partition_leader_epoch magic crc attributes last_offset_delta first_timestamp max_timestamp
-producer_id producer_epoch base_sequence count""".split()
+NAMES = """base_offset batch_length partition_leader_epoch magic crc attributes last_offset_delta first_timestamp
+max_timestamp producer_id producer_epoch base_sequence count""".split()
 # Those that are handed out and in.
 FIELDS = [name for name in NAMES if name not in ("batch_length", "magic", "crc", "attributes", "count")]
 UNSIGNED = "batch_length", "crc", "attributes"
@@ -182,8 +182,8 @@ NEGATIVE = {name: -1 - place for place, name in enumerate(FIELDS)}
 LATE = {**UNLIKE, "first_timestamp": LARGEST}
 # C-24's worked batch.
 HIGH = dict(
-    base_offset=5, partition_leader_epoch=3, last_offset_delta=0, first_timestamp=1000, max_timestamp=1000, producer_id=9,
-    producer_epoch=1, base_sequence=-1,
+    base_offset=5, partition_leader_epoch=3, last_offset_delta=0, first_timestamp=1000, max_timestamp=1000,
+    producer_id=9, producer_epoch=1, base_sequence=-1,
 )
 LATE_RECORDS = [Record(1, 0, None, b"", []), Record(-1, 1, b"", None, [(b"", b"k")])]
 
