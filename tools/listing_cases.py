@@ -1,12 +1,12 @@
 #!/usr/bin/env python3
-"""Runs target/bin/list, or the program that is named, on files that are made here and on samples/*.log, and compares
+"""Runs the program list, or the one that is named, on files that are made here and on samples/*.log, and compares
 what it prints with what is expected: tools/listing_cases.py [PROGRAM]
 
 Files are put together here, and the expected text of each stands beside it. The samples' is worked out by the decoder
 below, which is held to all the other cases too. Both are written from document 01 and, for control batches, from
 document 02's C-16 and C-24; nothing of the code under test is used. The program has to leave its standard error empty.
 Where its standard input cannot be read it has to say so there, in one line, and to print nothing. It has to end with
-status 0, since Rattle gives a program no other. Prints each case that differs, and fails where one does."""
+status 0 in every case. Prints each case that differs, and fails where one does."""
 import contextlib
 import pathlib
 import socket
