@@ -1,0 +1,13 @@
+-- `replay::answers::print_written` is safe and ends. The bytes that are printed end within the output, by what writing
+-- promises. Assumes nothing.
+use native.Mathlib.Omega.{arith}
+use lib.ListN.{length-take}
+use Rattle.writing.proofs.Outcomes.{within}
+use borrow.Author.Rules.{rules}
+use Rattle.replay.proofs.answers.print_written.Goals as goal
+
+pub slice_bounds-output-end : goal.slice_bounds-output-end
+slice_bounds-output-end g c = omega (arith, within _ _ _ _ c.write.ensures.by c.in-Bytes.is)
+
+pub slice_bounds-print_hexadecimal-end : goal.slice_bounds-print_hexadecimal-end
+slice_bounds-print_hexadecimal-end g c = simp length-take (omega (arith, within _ _ _ _ c.write.ensures.by c.in-Bytes.is))
