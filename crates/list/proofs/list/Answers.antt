@@ -1,10 +1,7 @@
 -- `list::list` meets its contract: it is safe, and it ends since each turn but the last goes further on. Assumes
 -- nothing.
-use borrow.Author.Rules.{rules}
-use Prim.Native.Nat.{◌-◌}
-use mathlib.Core.Path.{◌≡◌, sym}
+use mathlib.Core.Path.{sym}
 use native.Mathlib.Omega.{arith}
-use lib.ListN.{length}
 use lib.Seq.{length-take-le}
 use Rattle.listing.proofs.Listed.{first_in_use, at_in_use, forward}
 use Rattle.list.proofs.list.Goals as goal

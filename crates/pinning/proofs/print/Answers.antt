@@ -1,7 +1,6 @@
 -- `pinning::print` is safe and ends. The bytes that are printed end within the output, by what writing promises.
 -- Assumes nothing.
 use native.Mathlib.Omega.{arith}
-use borrow.Author.Rules.{rules}
 use lib.ListN.{length-take}
 use Rattle.writing.proofs.Outcomes.{within}
 use Rattle.pinning.proofs.print.Goals as goal

@@ -1,10 +1,7 @@
 -- `pinning::rows` is safe and ends, and its table has 192 numbers. The place stays within the table. The measure is
 -- what is left of it. Assumes nothing.
-use Prim.Native.Nat.{◌≤◌, ◌-◌}
-use mathlib.Core.Path.{◌≡◌}
 use native.Mathlib.Omega.{arith}
-use borrow.Author.Rules.{rules}
-use lib.ListN.{length, length-set}
+use lib.ListN.{length-set}
 use Rattle.pinning.proofs.rows.Goals as goal
 
 pub loop-i-preserved : goal.loop-i-preserved

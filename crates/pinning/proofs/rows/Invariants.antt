@@ -2,9 +2,7 @@
 -- what is left of it. Assumes nothing.
 use Prim.Native.Nat.{◌≤◌, ◌-◌}
 use mathlib.Core.Path.{◌≡◌}
-use native.Mathlib.Omega.{arith}
-use borrow.Author.Rules.{rules}
-use lib.ListN.{length, length-set}
+use lib.ListN.{length}
 use Rattle.pinning.proofs.rows.Given as goal
 
 abbrev pub invariant-loop-i : goal.invariant-loop-i

@@ -1,7 +1,6 @@
 -- `batch_vectors::agreement::agrees_in` is safe and ends. The bytes that are lent end within the space, which the code
 -- tests. Assumes nothing.
 use native.Mathlib.Omega.{arith}
-use borrow.Author.Rules.{rules}
 use lib.ListN.{length-take}
 use Rattle.batch_vectors.proofs.agreement.agrees_in.Goals as goal
 

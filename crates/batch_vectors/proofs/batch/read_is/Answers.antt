@@ -1,7 +1,6 @@
 -- `batch_vectors::batch::read_is` is safe and ends. The parts that are lent end within the tables, which the code
 -- tests. Assumes nothing.
 use native.Mathlib.Omega.{arith}
-use borrow.Author.Rules.{rules}
 use lib.ListN.{length-take}
 use Rattle.batch_vectors.proofs.batch.read_is.Goals as goal
 

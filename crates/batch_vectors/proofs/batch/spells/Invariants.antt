@@ -1,7 +1,6 @@
 -- `batch_vectors::batch::spells` is safe and ends. The place stays within the answer. The measure is what is left of
 -- it. Assumes nothing.
 use Prim.Native.Nat.{◌≤◌, ◌-◌}
-use borrow.Author.Rules.{rules}
 use Rattle.batch_vectors.proofs.batch.spells.Given as goal
 
 abbrev pub invariant-loop-i : goal.invariant-loop-i

@@ -1,9 +1,7 @@
 -- `batch_vectors::exact::agrees` is safe and ends. Each start ends within the bytes. The measure is how many are
 -- left. Assumes nothing.
-use Prim.Native.Nat.{◌≤◌, ◌-◌, ◌+◌}
 use native.Mathlib.Omega.{arith}
-use borrow.Author.Rules.{rules}
-use lib.ListN.{length, length-take}
+use lib.ListN.{length-take}
 use Rattle.batch_vectors.proofs.exact.agrees.Goals as goal
 
 pub slice_bounds-is_canonical-end : goal.slice_bounds-is_canonical-end

@@ -2,7 +2,6 @@
 -- measure is what is left of it. Assumes nothing.
 use Prim.Native.Nat.{◌≤◌, ◌-◌}
 use mathlib.Core.Path.{◌≡◌}
-use borrow.Author.Rules.{rules}
 use lib.ListN.{length}
 use Rattle.batch_vectors.proofs.large.put_rows.Given as goal
 

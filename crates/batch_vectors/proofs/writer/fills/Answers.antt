@@ -1,7 +1,6 @@
 -- `batch_vectors::writer::fills` is safe and ends. The room that is lent ends within the output, which the code tests.
 -- Assumes nothing.
 use native.Mathlib.Omega.{arith}
-use borrow.Author.Rules.{rules}
 use lib.ListN.{length-take}
 use Rattle.batch_vectors.proofs.writer.fills.Goals as goal
 

@@ -2,7 +2,6 @@
 -- rooms are left, and one. Assumes nothing.
 use Prim.Native.Nat.{◌≤◌, ◌-◌, ◌+◌}
 use mathlib.Core.Path.{◌≡◌}
-use borrow.Author.Rules.{rules}
 use lib.ListN.{length}
 use Rattle.batch_vectors.proofs.writer.fills_every_room.Given as goal
 

@@ -1,7 +1,6 @@
 -- `batch_vectors::writer::with_bytes` is safe and ends. The bytes that are lent end within their room, which the code
 -- tests. Assumes nothing.
 use native.Mathlib.Omega.{arith}
-use borrow.Author.Rules.{rules}
 use lib.ListN.{length-take}
 use Rattle.batch_vectors.proofs.writer.with_bytes.Goals as goal
 

@@ -1,7 +1,6 @@
 -- `batch_vectors::writer::with_tables` is safe and ends. The parts of the tables that are lent end within them, which
 -- the code tests. Assumes nothing.
 use native.Mathlib.Omega.{arith}
-use borrow.Author.Rules.{rules}
 use lib.ListN.{length-take}
 use Rattle.batch_vectors.proofs.writer.with_tables.Goals as goal
 

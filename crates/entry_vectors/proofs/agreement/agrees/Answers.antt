@@ -1,7 +1,6 @@
 -- `entry_vectors::agreement::agrees` is safe and ends. The bytes that are lent end within the space, which the code
 -- tests. Assumes nothing.
 use native.Mathlib.Omega.{arith}
-use borrow.Author.Rules.{rules}
 use lib.ListN.{length-take}
 use Rattle.entry_vectors.proofs.agreement.agrees.Goals as goal
 

@@ -1,7 +1,6 @@
 -- `entry_vectors::conversion::converts` is safe and ends. The room that is lent ends within the output, which the code
 -- tests. Assumes nothing.
 use native.Mathlib.Omega.{arith}
-use borrow.Author.Rules.{rules}
 use lib.ListN.{length-take}
 use Rattle.entry_vectors.proofs.conversion.converts.Goals as goal
 

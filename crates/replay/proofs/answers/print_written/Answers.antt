@@ -3,7 +3,6 @@
 use native.Mathlib.Omega.{arith}
 use lib.ListN.{length-take}
 use Rattle.writing.proofs.Outcomes.{within}
-use borrow.Author.Rules.{rules}
 use Rattle.replay.proofs.answers.print_written.Goals as goal
 
 pub slice_bounds-output-end : goal.slice_bounds-output-end

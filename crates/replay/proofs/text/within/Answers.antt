@@ -2,7 +2,6 @@
 use native.Mathlib.Omega.{arith}
 use mir.Syntax.{w64}
 use Rattle.numbers.proofs.Signs.{nonnegative}
-use borrow.Author.Rules.{rules}
 use Rattle.replay.proofs.text.within.Goals as goal
 
 pub overflow_cast-start : goal.overflow_cast-start

@@ -1,7 +1,6 @@
 -- `vectors::agreement::read` is safe and ends. The parts that are lent end within the word and within the space, which
 -- the code tests. Assumes nothing.
 use native.Mathlib.Omega.{arith}
-use borrow.Author.Rules.{rules}
 use lib.ListN.{length-take}
 use Rattle.vectors.proofs.agreement.read.Goals as goal
 

@@ -1,7 +1,6 @@
 -- `vectors::agreement::run_summed` is safe and ends. The part that is lent, to be filled and to be read, ends within
 -- the space, which the code tests. Assumes nothing.
 use native.Mathlib.Omega.{arith}
-use borrow.Author.Rules.{rules}
 use lib.ListN.{length-take}
 use Rattle.vectors.proofs.agreement.run_summed.Goals as goal
 

@@ -1,7 +1,6 @@
 -- `vectors::agreement::written` is safe and ends. The part that is lent ends within the space, which the code tests.
 -- Assumes nothing.
 use native.Mathlib.Omega.{arith}
-use borrow.Author.Rules.{rules}
 use lib.ListN.{length-take}
 use Rattle.vectors.proofs.agreement.written.Goals as goal
 

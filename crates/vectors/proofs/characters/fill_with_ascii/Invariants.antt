@@ -2,7 +2,6 @@
 -- The measure is what is left of them. Assumes nothing.
 use Prim.Native.Nat.{◌≤◌, ◌-◌}
 use mathlib.Core.Path.{◌≡◌}
-use borrow.Author.Rules.{rules}
 use lib.ListN.{length}
 use Rattle.vectors.proofs.characters.fill_with_ascii.Given as goal
 

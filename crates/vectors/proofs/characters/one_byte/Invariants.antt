@@ -1,7 +1,6 @@
 -- `vectors::characters::one_byte` is safe and ends. It counts up to a limit, and the measure is what is left to it.
 -- Assumes nothing.
 use Prim.Native.Nat.{◌≤◌, ◌-◌}
-use borrow.Author.Rules.{rules}
 use Rattle.vectors.proofs.characters.one_byte.Given as goal
 
 abbrev pub invariant-loop-b : goal.invariant-loop-b

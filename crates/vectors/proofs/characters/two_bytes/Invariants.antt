@@ -1,7 +1,6 @@
 -- `vectors::characters::two_bytes` is safe and ends. It counts up to a limit, and the measure is what is left to it.
 -- Assumes nothing.
 use Prim.Native.Nat.{◌≤◌, ◌-◌}
-use borrow.Author.Rules.{rules}
 use Rattle.vectors.proofs.characters.two_bytes.Given as goal
 
 abbrev pub invariant-loop-string : goal.invariant-loop-string

@@ -1,9 +1,7 @@
 -- `vectors::checksums::sums_to` is safe and ends. A cut lies within the bytes where the loop goes on. The measure is
 -- what is left of them, and one. Assumes nothing.
-use Prim.Native.Nat.{◌≤◌, ◌+◌, ◌-◌}
 use native.Mathlib.Omega.{arith}
-use borrow.Author.Rules.{rules}
-use lib.ListN.{length, length-take}
+use lib.ListN.{length-take}
 use Rattle.vectors.proofs.checksums.sums_to.Goals as goal
 
 pub slice_bounds-update-end : goal.slice_bounds-update-end

@@ -1,9 +1,7 @@
 -- `vectors::checksums::sums_to` is safe and ends. A cut lies within the bytes where the loop goes on. The measure is
 -- what is left of them, and one. Assumes nothing.
 use Prim.Native.Nat.{◌≤◌, ◌+◌, ◌-◌}
-use native.Mathlib.Omega.{arith}
-use borrow.Author.Rules.{rules}
-use lib.ListN.{length, length-take}
+use lib.ListN.{length}
 use Rattle.vectors.proofs.checksums.sums_to.Given as goal
 
 abbrev pub invariant-loop-k : goal.invariant-loop-k

@@ -1,7 +1,6 @@
 -- `vectors::rows::answered` is safe and ends. The parts that are lent end within the tables, which the code tests.
 -- Assumes nothing.
 use native.Mathlib.Omega.{arith}
-use borrow.Author.Rules.{rules}
 use lib.ListN.{length-take}
 use Rattle.vectors.proofs.rows.answered.Goals as goal
 

@@ -1,7 +1,6 @@
 -- `vectors::writing::copies` is safe and ends. The bytes that are expected end within those given, which the code
 -- tests. Assumes nothing.
 use native.Mathlib.Omega.{arith}
-use borrow.Author.Rules.{rules}
 use lib.ListN.{length-take}
 use Rattle.vectors.proofs.writing.copies.Goals as goal
 

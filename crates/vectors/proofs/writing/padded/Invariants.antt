@@ -1,7 +1,6 @@
 -- `vectors::writing::padded` is safe and ends. The place stays within the ten bytes. The measure is what is left of
 -- them. Assumes nothing.
 use Prim.Native.Nat.{◌≤◌, ◌-◌}
-use borrow.Author.Rules.{rules}
 use Rattle.vectors.proofs.writing.padded.Given as goal
 
 abbrev pub invariant-loop-i : goal.invariant-loop-i

@@ -1,7 +1,6 @@
 -- `vectors::writing::puts_into` is safe and ends. The room that is lent ends within the output, which the code tests.
 -- Assumes nothing.
 use native.Mathlib.Omega.{arith}
-use borrow.Author.Rules.{rules}
 use lib.ListN.{length-take}
 use Rattle.vectors.proofs.writing.puts_into.Goals as goal
 
