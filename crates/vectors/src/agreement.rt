@@ -1,7 +1,7 @@
 // One case: what its line expects, held to what the library answers.
 use crate::characters::AROUND;
 use crate::fields::Outcome;
-use crate::{characters, checksums, fields, rows, totals, writing};
+use crate::{characters, checksums, fields, rows, totals, writer};
 use cases::text::{Number, Spelled, before, decimal, hexadecimal, same, unsigned, word, words};
 
 // The first word says what a case is about. A line that is no case agrees with nothing. Bytes are put into space.
@@ -39,7 +39,7 @@ fn written(line: &[u8], space: &mut [u8]) -> bool {
     if space.len() < count {
         return false;
     }
-    writing::writes(word(line, 1), n, &space[..count])
+    writer::writes(word(line, 1), n, &space[..count])
 }
 
 // crc32c HEX SUM
@@ -124,7 +124,7 @@ fn answered(kind: &[u8], s: &[u8], at: usize, line: &[u8]) -> bool {
         return rows::agree(s, at, line);
     }
     if same(kind, b"copy") {
-        return at == 0 && writing::copies(s, line);
+        return at == 0 && writer::copies(s, line);
     }
     fields::read(kind, s, at).same(expected(line))
 }

@@ -10,7 +10,7 @@ mod fields;
 mod rows;
 mod strings;
 mod totals;
-mod writing;
+mod writer;
 
 use agreement::agrees;
 use cases::groups::{Groups, Line, line_end, whole};

@@ -1,7 +1,7 @@
--- `vectors::writing::padded` is safe and ends. The place stays within the ten bytes. The measure is what is left of
+-- `vectors::writer::padded` is safe and ends. The place stays within the ten bytes. The measure is what is left of
 -- them. Assumes nothing.
 use Prim.Native.Nat.{◌≤◌, ◌-◌}
-use Rattle.vectors.proofs.writing.padded.Given as goal
+use Rattle.vectors.proofs.writer.padded.Given as goal
 
 abbrev pub invariant-loop-i : goal.invariant-loop-i
 invariant-loop-i l = l.i ≤ 10
