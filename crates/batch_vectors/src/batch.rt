@@ -17,7 +17,7 @@ const ACCEPTED: i64 = 0;
 
 const MORE_BYTES: i64 = 1;
 
-// The places after batch_length and after magic: so many bytes are needed before the next are.
+// The places after batchLength and after magic: so many bytes are needed before the next are.
 const LENGTH_END: usize = 12;
 
 const MAGIC_END: usize = 17;

@@ -1,4 +1,4 @@
-// Batches that are too large for any output here: rows that all show the same bytes, up to what batch_length holds and
+// Batches that are too large for any output here: rows that all show the same bytes, up to what batchLength holds and
 // beyond it.
 use crate::times::batch;
 use crate::writer::{ACCEPTED, SHORT_OUTPUT, is_answer};
@@ -129,7 +129,7 @@ fn records_of(rows: Rows) -> ControlBatchOrRecords {
     ControlBatchOrRecords::Records(count as usize)
 }
 
-// Where batch_length holds all, the output is too short for it; and it always stays as it is.
+// Where batchLength holds all, the output is too short for it; and it always stays as it is.
 fn is_written(
     mode: ControlMode,
     kind: ControlBatchOrRecords,

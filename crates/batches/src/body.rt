@@ -1,6 +1,6 @@
 // The records of a batch, read by one small reader that keeps the lent bytes beside its place, as the Rust's `Cursor`
-// keeps `data` and a position in RecordBatch::read. Each function is thin: the work is done by crates/reading, on a plain slice
-// and a place.
+// keeps `data` and a position in RecordBatch::read. Each function is thin: the work is done by crates/reading, on a
+// plain slice and a place.
 ghost use Rattle.records.specs.Rows.{tables};
 ghost use Rattle.batches.specs.Promises.{BodyReaderPromise, ReadBodyPromise, ReadHeldPromise};
 

@@ -89,7 +89,7 @@ pub enum BatchRead {
 }
 
 impl RecordBatch {
-    // The bytes of a batch, from any batch_length.
+    // The bytes of a batch, from any batchLength.
     pub fn total_size(batch_length: i32) -> i64
         ensures { TotalSizePromise batch_length result }
     {

@@ -24,7 +24,7 @@ const BARE: usize = BatchFields::FIXED + 4;
 
 const KEYED: usize = BatchFields::FIXED + 11;
 
-// The place of batch_length.
+// The place of batchLength.
 const LENGTH: usize = 8;
 
 // The number of a control batch in the form that is withdrawn.

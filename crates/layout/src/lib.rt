@@ -61,7 +61,7 @@ pub enum RecordTime {
 }
 
 impl BatchFields {
-    // What stands before batch_length begins to count.
+    // What stands before batchLength begins to count.
     pub const UNCOUNTED: usize = 12;
     // What it counts outside the checksum.
     pub const UNCHECKED: usize = 9;
@@ -78,7 +78,7 @@ impl BatchFields {
 
     pub const COUNT: usize = 57;
 
-    // The bytes of a batch, from any batch_length.
+    // The bytes of a batch, from any batchLength.
     pub fn total_size(batch_length: i32) -> i64
         ensures { TotalSizePromise batch_length result }
     {

@@ -1,5 +1,6 @@
 -- The laws of the listing, each in words and then as a statement. What proves each stands in proofs/ under the
--- statement's name in small letters: `listed : Listed`.
+-- statement's name in small letters, with `_lem` after it where a definition has that name: `listed : Listed`,
+-- `program_rooms_lem : ProgramRooms`.
 use Rattle.std.specs.Prelude.{ℕ, suc, ◌+◌, ◌-◌, ◌*◌, ◌^◌, ◌<◌, ◌≤◌, ◌≡◌, List, [], ◌∷◌, ◌++◌, length, get_or, take}
 use Rattle.records.specs.Rows.{Tables}
 use Rattle.batches.specs.Answers.{Rooms, rooms_of}

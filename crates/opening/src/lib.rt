@@ -33,7 +33,7 @@ pub enum BatchFault {
     Body(RecordFault),
 }
 
-// What stands before the count of batch_length begins to count.
+// What stands before the count of batchLength begins to count.
 #[derive(Clone, Copy)]
 struct Lead {
     base_offset: i64,

@@ -1,4 +1,4 @@
-// The size of a batch, by its batch_length.
+// The size of a batch, by its batchLength.
 use batches::RecordBatch;
 use cases::integer::Integer;
 use cases::text::{Number, decimal, word, words};

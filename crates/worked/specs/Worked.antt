@@ -1,6 +1,7 @@
 -- The worked batches (crates/examples) from end to end: what is read in their bytes, filled in, told, and written
 -- again; and those of keyed mode (Keyed.antt). Each layer has the same of its own definitions in its own Worked.antt.
--- What proves each stands in proofs/ under the statement's name in small letters: `read_right : ReadRight`.
+-- What proves each stands in proofs/ under the statement's name in small letters, with `_lem` after it where a
+-- definition has that name: `read_right : ReadRight`, `read_keyed_lem : ReadKeyed`.
 use Rattle.std.specs.Prelude.{ℕ, zero, suc, ◌+◌, ◌-◌, ◌≡◌, false, List, [], ◌∷◌, ◌++◌, map, ℤ, pos, length, replicate}
 use Rattle.std.proofs.Math.Option.{Option}
 use Rattle.examples.specs.Examples.{Example, headed_examples, record_examples, marker_examples, Refusal, refusals, RowRefusal, row_refusals}

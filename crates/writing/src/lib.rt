@@ -63,7 +63,7 @@ enum RowPut {
     Refused(WriteFault),
 }
 
-// The most bytes of records that batch_length leaves room for beside the fields that it counts.
+// The most bytes of records that batchLength leaves room for beside the fields that it counts.
 const MOST: usize = 2147483598;
 
 // How many bytes the records of the first `count` rows take, their headers from `first_header_row` on.
