@@ -4,20 +4,21 @@
     compare/processors/big_endian.py <MODULE.ll
 
 The kit compiles for little-endian processors, and relies on it in two places, which no code of Rattle can see. The bytes
-of a constant stand in that order: here they become numbers. The one constant of the library is the table of the
-checksum, 256 numbers of 32 bits (crates/crc32c). And which case of an enum a value is is written as 64 bits and read as
-the first 8 of them: here they are written in that order. These are the only wide stores with no alignment. A module
-that is otherwise fails."""
+of a constant stand in that order: here they become numbers. The library has two constants. One is the table of the
+checksum, 256 numbers of 32 bits (crates/crc32c); the other is zeros, which have no order. And which case of an enum a
+value is is written as 16, 32 or 64 bits and read as the first 8 of them: here they are written in that order. These are
+the only wide stores with no alignment. A module that is otherwise fails."""
 import itertools
 import re
 import sys
 
 CONSTANT = re.compile(r'(?m)^(@static\.\d+ = private unnamed_addr constant) \[(\d+) x i8\] c"((?:\\\\|\\..|[^"\\])*)"')
+ZEROS = re.compile(r'(?m)^@static\.\d+ = private unnamed_addr constant \[\d+ x i8\] zeroinitializer, align \d+$')
 TABLE = 256
 FUNCTION = re.compile(r"(?ms)^define [^\n]*?(@[^(\n]+)\([^\n]*\{\n.*?^\}\n")
 WIDE = r"(?:i16|i32|i64|i128|ptr)"
-CASE = re.compile(r"(?m)^  store i64 (\S+), (ptr \S+), align 1$")
-SWAP = "declare i64 @llvm.bswap.i64(i64)\n"
+CASE = re.compile(r"(?m)^  store (i16|i32|i64) (\S+), (ptr \S+), align 1$")
+SWAP = "declare %s @llvm.bswap.%s(%s)\n"
 
 
 def as_bytes(text):
@@ -35,14 +36,18 @@ def as_numbers(found):
 
 def with_cases(module):
     """The module with each case of an enum written lowest byte first."""
-    numbers = itertools.count()
+    numbers, widths = itertools.count(), set()
 
     def swapped(found):
+        width, case, place = found.groups()
+        widths.add(width)
         name = "%%swapped.%d" % next(numbers)
-        call = "  %s = call i64 @llvm.bswap.i64(i64 %s)\n" % (name, found[1])
-        return call + "  store i64 %s, %s, align 1" % (name, found[2])
+        call = "  %s = call %s @llvm.bswap.%s(%s %s)\n" % (name, width, width, width, case)
+        return call + "  store %s %s, %s, align 1" % (width, name, place)
 
-    return CASE.sub(swapped, module) + (SWAP if SWAP not in module else "")
+    text = CASE.sub(swapped, module)
+    declared = (SWAP % (width, width, width) for width in sorted(widths))
+    return text + "".join(line for line in declared if line not in module)
 
 
 def check_others(module):
@@ -55,7 +60,7 @@ def check_others(module):
 
 
 text, count = CONSTANT.subn(as_numbers, sys.stdin.read())
-if count != 1 or len(re.findall(r"(?m)^@", text)) != 1:
-    sys.exit("the module has other constants than the table of the checksum")
+if count != 1 or len(re.findall(r"(?m)^@", text)) != 1 + len(ZEROS.findall(text)):
+    sys.exit("the module has other constants than the table of the checksum and zeros")
 check_others(text)
 print(with_cases(text), end="")

@@ -1,7 +1,9 @@
 pub mod Accepted
 pub mod Asks
+pub mod Exits
 mod HeaderRows
 pub mod Own
+mod Places
 mod RecordRows
 pub mod Refusals
 pub mod RowFaults

@@ -1,15 +1,15 @@
 -- What is asked for, case by case: document 01's number of a fault, and the spans and numbers that a row gives.
-use Rattle.std.specs.Prelude.{ℕ, ◌+◌}
-use Rattle.std.proofs.Math.Option.{Option, none, some}
+use Rattle.std.specs.Prelude.{ℕ, Result, Ok, Err}
+use Rattle.std.specs.Prelude as std
+use Rattle.std.proofs.Math.Option.{Option}
 use Rattle.primitives.specs.Step.{Step, ok, no}
+use Rattle.primitives.specs.declared.Span as declared
 use Rattle.primitives.specs.Reading.{Span}
+use Rattle.primitives.specs.Answers.{view_nullable, span_as_read}
 use Rattle.records.specs.Judgement.{HeaderSpans, Head}
 use Rattle.asking.specs.declared.WriteFault.{WriteFault}
-use Rattle.asking.specs.declared.Shown.{Shown}
 use Rattle.asking.specs.declared.AskedHeader.{AskedHeader}
-use Rattle.asking.specs.declared.HeaderAsked.{HeaderAsked}
 use Rattle.asking.specs.declared.AskedRecord.{AskedRecord}
-use Rattle.asking.specs.declared.RecordAsked.{RecordAsked}
 
 -- document 01, Writer's numbers, and C-24's 41
 abbrev pub write_number_of : WriteFault → ℕ
@@ -20,25 +20,19 @@ write_number_of WriteFault.TooLong = 23
 write_number_of WriteFault.ShortOutput = 24
 write_number_of WriteFault.BareMarker = 41
 
-abbrev pub span_of : Shown → Option Span
-span_of Shown.Null = none
-span_of (Shown.Bytes x) = some (record { start = x.start; len = x.len })
+-- what is asked for with the place after it, by what it says; or the number of the fault
+abbrev pub view_answer : {P A B : Type 0} → P → (A → B) → Result A WriteFault → Step P B
+view_answer next value (Ok x) = ok (value x) next
+view_answer next value (Err f) = no (write_number_of f)
 
--- ---- a header's row, and the row after it
+-- bytes of the source, or null
+abbrev pub span_of : std.Option declared.Span → Option Span
+span_of = view_nullable span_as_read
 
 abbrev pub header_of : AskedHeader → HeaderSpans
-header_of h =
-    record {
-      key = record { start = h.key.start; len = h.key.len };
-      value = record { start = h.value.start; len = h.value.len };
-    }
+header_of h = record { key = span_as_read h.key; value = span_as_read h.value }
 
-abbrev pub view_header : ℕ → HeaderAsked → Step ℕ HeaderSpans
-view_header row (HeaderAsked.Got h) = ok (header_of h) (row + 1)
-view_header row (HeaderAsked.Refused f) = no (write_number_of f)
-
--- ---- a record's row; its headers have rows of their own
-
+-- a record's headers have rows of their own
 abbrev pub head_of : AskedRecord → Head
 head_of r =
     record {
@@ -47,7 +41,3 @@ head_of r =
       value = span_of r.value;
       count = r.headers;
     }
-
-abbrev pub view_record : ℕ → RecordAsked → Step ℕ Head
-view_record row (RecordAsked.Got r) = ok (head_of r) row
-view_record row RecordAsked.Wrong = no 21

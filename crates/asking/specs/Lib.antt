@@ -1,7 +1,6 @@
 pub mod Answers
 pub mod Asked
 pub mod RowFaults
-pub mod Numbers
 pub mod Promises
 pub mod Statements
 pub mod Worked

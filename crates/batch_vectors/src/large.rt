@@ -1,12 +1,11 @@
 // Batches that are too large for any output here: rows that all show the same bytes, up to what batchLength holds and
 // beyond it.
 use crate::times::batch;
-use crate::writer::{ACCEPTED, SHORT_OUTPUT, is_answer};
+use crate::writer::{ACCEPTED, SHORT_OUTPUT, distance, is_answer};
 use batches::ControlBatchOrRecords;
-use cases::integer::Integer;
 use cases::outputs::{blot, is_left};
 use cases::tables::fill;
-use cases::text::{Spelled, words_from};
+use cases::text::words_from;
 use layout::{ControlMode, RecordBatchTimestampType};
 
 // How many bytes the source has, and each of them: no key may begin with it.
@@ -32,121 +31,72 @@ struct Rows {
 }
 
 // large RECORDS HEADERS KEY VALUE NUMBER SIZE
-pub fn agrees(mode: ControlMode, line: &[u8]) -> bool {
-    let mut n = [0i64; NUMBERS];
-    let Spelled::Count(count) = fill(words_from(line, 1), &mut n) else {
-        return false;
+pub fn agrees(mode: ControlMode, line: &[u8]) -> Option<bool> {
+    let mut numbers = [0i64; NUMBERS];
+    let &[records, headers, last_key, last_value, number, size] = fill(
+        words_from(line, 1),
+        &mut numbers,
+    )?
+    else {
+        return None;
     };
     let rows = Rows {
-        records: n[0],
-        headers: n[1],
-        last_key: n[2],
-        last_value: n[3],
+        records,
+        headers,
+        last_key,
+        last_value,
     };
-    count == NUMBERS && with_tables(mode, rows, n[4], Integer::from_i64(n[5]))
-}
-
-fn with_tables(mode: ControlMode, rows: Rows, number: i64, size: Integer) -> bool {
-    let mut records = [0i64; TABLE];
-    let mut headers = [0i64; TABLE];
-    let source = [TAIL; SOURCE];
-    let size = size.distance;
-    put_rows(&mut records, rows, true);
-    put_rows(&mut headers, rows, false);
-    is_written(
-        mode,
-        records_of(rows),
-        &records,
-        &headers,
-        &source,
-        number,
-        size as usize,
-    )
-}
-
-fn put_rows(table: &mut [i64], rows: Rows, of_records: bool) {
-    let mut i = 0;
-    while i < table.len() {
-        let n = number_at(rows, of_records, i);
-        table[i] = n;
-        i += 1;
-    }
-}
-
-fn number_at(rows: Rows, of_records: bool, i: usize) -> i64 {
-    if of_records {
-        return record_number(rows, i / 8, i % 8);
-    }
-    header_number(rows, i / 4, i % 4)
-}
-
-fn record_number(rows: Rows, row: usize, column: usize) -> i64 {
-    let is_last = is_last(row, rows.records);
-    match column {
-        3 | 5 => {
-            if is_last {
-                return -1;
-            }
-            SOURCE as i64
-        }
-        7 => {
-            if is_last {
-                return rows.headers;
-            }
-            0
-        }
-        _ => 0,
-    }
-}
-
-fn header_number(rows: Rows, row: usize, column: usize) -> i64 {
-    let is_last = is_last(row, rows.headers);
-    match column {
-        1 => {
-            if is_last {
-                return rows.last_key;
-            }
-            0
-        }
-        3 => {
-            if is_last {
-                return rows.last_value;
-            }
-            SOURCE as i64
-        }
-        _ => 0,
-    }
-}
-
-fn is_last(row: usize, rows: i64) -> bool {
-    let rows = Integer::from_i64(rows);
-    row < 0xFFFF_FFFF_FFFF_FFFF && Integer::from_u64(row as u64 + 1).same(rows)
-}
-
-fn records_of(rows: Rows) -> ControlBatchOrRecords {
-    let count = Integer::from_i64(rows.records);
-    let count = count.distance;
-    ControlBatchOrRecords::Records(count as usize)
+    Some(is_written(mode, rows, number, distance(size)))
 }
 
 // Where batchLength holds all, the output is too short for it; and it always stays as it is.
-fn is_written(
-    mode: ControlMode,
-    kind: ControlBatchOrRecords,
-    records: &[i64],
-    headers: &[i64],
-    source: &[u8],
-    number: i64,
-    size: usize,
-) -> bool {
+fn is_written(mode: ControlMode, rows: Rows, number: i64, size: usize) -> bool {
+    let mut records = [0i64; TABLE];
+    let mut headers = [0i64; TABLE];
+    let source = [TAIL; SOURCE];
+    put_records(&mut records, rows);
+    put_headers(&mut headers, rows);
     let mut output = [0u8; OUTPUT];
     blot(&mut output);
-    let batch = batch(Integer::from_u64(0), RecordBatchTimestampType::CreateTime);
-    let measured = batch.measure(mode, 0, kind, records, headers, source);
-    let written = batch.write(mode, 0, kind, records, headers, source, &mut output);
+    let kind = ControlBatchOrRecords::Records(distance(rows.records));
+    let batch = batch(0, RecordBatchTimestampType::CreateTime);
+    let measured = batch.measure(mode, 0, kind, &records, &headers, &source);
+    let written = batch.write(mode, 0, kind, &records, &headers, &source, &mut output);
     is_answer(measured, number, size)
         && is_answer(written, written_number(number), 0)
         && is_left(&output, 0, b"")
+}
+
+fn put_records(table: &mut [i64], rows: Rows) {
+    let (table, _) = table.as_chunks_mut::<8>();
+    for (row, numbers) in table.iter_mut().enumerate() {
+        *numbers = record_row(rows, row);
+    }
+}
+
+fn put_headers(table: &mut [i64], rows: Rows) {
+    let (table, _) = table.as_chunks_mut::<4>();
+    for (row, numbers) in table.iter_mut().enumerate() {
+        *numbers = header_row(rows, row);
+    }
+}
+
+fn record_row(rows: Rows, row: usize) -> [i64; 8] {
+    if is_last(row, rows.records) {
+        return [0, 0, 0, -1, 0, -1, 0, rows.headers];
+    }
+    [0, 0, 0, SOURCE as i64, 0, SOURCE as i64, 0, 0]
+}
+
+fn header_row(rows: Rows, row: usize) -> [i64; 4] {
+    if is_last(row, rows.headers) {
+        return [0, rows.last_key, 0, rows.last_value];
+    }
+    [0, 0, 0, SOURCE as i64]
+}
+
+fn is_last(row: usize, rows: i64) -> bool {
+    row as i128 + 1 == i128::from(rows)
 }
 
 fn written_number(measured: i64) -> i64 {

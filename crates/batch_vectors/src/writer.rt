@@ -1,13 +1,13 @@
 // Batches and records that are written: what is answered, and every byte of the output afterwards, whatever its room.
-use batches::{BatchRead, ControlBatchOrRecords, RecordBatch};
+use asking::WriteFault;
+use batches::{ControlBatchOrRecords, RecordBatch};
 use canonical::canonical_records;
-use cases::integer::Integer;
 use cases::outputs::{blot, is_left};
 use cases::tables::{MOST, fill};
-use cases::text::{Spelled, after_bar, before, hexadecimal, word, words_from};
+use cases::text::{hexadecimal, split_at_bar, word, words_from};
 use layout::{ControlMode, RecordBatchTimestampType};
 use markers::ControlBatchRecord;
-use writing::{Written, measure_records, write_records};
+use writing::{measure_records, write_records};
 
 // Document 01's numbers that depend on the output's room.
 pub const ACCEPTED: i64 = 0;
@@ -42,275 +42,234 @@ enum Task {
     },
 }
 
-// The same, and what document 01 answers where the output has room.
+// The same with the rows and the source that it is written from, what document 01 answers where the output has room,
+// and the bytes that are expected there.
 #[derive(Clone, Copy)]
-struct Asked {
+struct Case<'a> {
     task: Task,
+    records: &'a [i64],
+    headers: &'a [i64],
+    source: &'a [u8],
     number: i64,
+    bytes: &'a [u8],
 }
 
 // write SOURCE BYTES CODEC KIND COUNT FIELDS.. NUMBER|ROWS|ROWS
-pub fn batch_agrees(mode: ControlMode, source: &[u8], line: &[u8]) -> bool {
+pub fn batch_agrees(mode: ControlMode, source: &[u8], line: &[u8]) -> Option<bool> {
     let mut numbers = [0i64; OF_BATCH];
-    let n = before(line, b'|');
-    let Spelled::Count(count) = fill(words_from(&line[..n], 3), &mut numbers) else {
-        return false;
-    };
-    count == OF_BATCH && with_bytes(batch_asked(mode, &numbers), source, line)
+    let (asked, rows) = split_at_bar(line);
+    let (task, number) = batch_asked(mode, fill(words_from(asked, 3), &mut numbers)?)?;
+    is_written(task, number, source, word(line, 2), rows)
 }
 
 // write-records SOURCE BYTES FIRST COUNT AT NUMBER|ROWS|ROWS
-pub fn records_agree(source: &[u8], line: &[u8]) -> bool {
+pub fn records_agree(source: &[u8], line: &[u8]) -> Option<bool> {
     let mut numbers = [0i64; OF_RECORDS];
-    let n = before(line, b'|');
-    let Spelled::Count(count) = fill(words_from(&line[..n], 3), &mut numbers) else {
-        return false;
-    };
-    count == OF_RECORDS && with_bytes(records_asked(&numbers), source, line)
+    let (asked, rows) = split_at_bar(line);
+    let (task, number) = records_asked(fill(words_from(asked, 3), &mut numbers)?)?;
+    is_written(task, number, source, word(line, 2), rows)
 }
 
-fn batch_asked(mode: ControlMode, n: &[i64; OF_BATCH]) -> Asked {
+fn batch_asked(mode: ControlMode, numbers: &[i64]) -> Option<(Task, i64)> {
+    let &[
+        codec,
+        kind,
+        count,
+        base_offset,
+        partition_leader_epoch,
+        last_offset_delta,
+        first_timestamp,
+        max_timestamp,
+        producer_id,
+        producer_epoch,
+        base_sequence,
+        timestamp_type,
+        is_transactional,
+        number,
+    ] = numbers
+    else {
+        return None;
+    };
     let batch = RecordBatch {
-        base_offset: n[3],
-        partition_leader_epoch: Integer::from_i64(n[4]).to_i32(),
-        last_offset_delta: Integer::from_i64(n[5]).to_i32(),
-        first_timestamp: n[6],
-        max_timestamp: n[7],
-        producer_id: n[8],
-        producer_epoch: Integer::from_i64(n[9]).to_i16(),
-        base_sequence: Integer::from_i64(n[10]).to_i32(),
-        timestamp_type: type_of(n[11]),
-        is_transactional: n[12] == 1,
+        base_offset,
+        partition_leader_epoch: i32::try_from(partition_leader_epoch).unwrap_or(0),
+        last_offset_delta: i32::try_from(last_offset_delta).unwrap_or(0),
+        first_timestamp,
+        max_timestamp,
+        producer_id,
+        producer_epoch: i16::try_from(producer_epoch).unwrap_or(0),
+        base_sequence: i32::try_from(base_sequence).unwrap_or(0),
+        timestamp_type: type_of(timestamp_type),
+        is_transactional: is_transactional == 1,
     };
     let task = Task::Batch {
         mode,
         batch,
-        codec: Integer::from_i64(n[0]).to_u8(),
-        kind: kind_of(n[1], n[2]),
+        codec: u8::try_from(distance(codec)).unwrap_or(0),
+        kind: kind_of(kind, count),
     };
-    Asked {
-        task,
-        number: n[13],
-    }
+    Some((task, number))
 }
 
-fn records_asked(n: &[i64; OF_RECORDS]) -> Asked {
-    let task = Task::Records {
-        first_header_row: count_of(n[0]),
-        count: count_of(n[1]),
-        at: count_of(n[2]),
+fn records_asked(numbers: &[i64]) -> Option<(Task, i64)> {
+    let &[first_header_row, count, at, number] = numbers else {
+        return None;
     };
-    Asked { task, number: n[3] }
+    let task = Task::Records {
+        first_header_row: count_of(first_header_row),
+        count: count_of(count),
+        at: count_of(at),
+    };
+    Some((task, number))
 }
 
 fn type_of(n: i64) -> RecordBatchTimestampType {
-    if n == 0 {
-        return RecordBatchTimestampType::CreateTime;
+    match n {
+        0 => RecordBatchTimestampType::CreateTime,
+        _ => RecordBatchTimestampType::LogAppendTime,
     }
-    RecordBatchTimestampType::LogAppendTime
 }
 
 // 0 is records, 1 an abort, 2 a commit.
 fn kind_of(n: i64, count: i64) -> ControlBatchOrRecords {
-    if n == 1 {
-        return ControlBatchOrRecords::ControlBatch(ControlBatchRecord::Abort);
+    match n {
+        1 => ControlBatchOrRecords::ControlBatch(ControlBatchRecord::Abort),
+        2 => ControlBatchOrRecords::ControlBatch(ControlBatchRecord::Commit),
+        _ => ControlBatchOrRecords::Records(count_of(count)),
     }
-    if n == 2 {
-        return ControlBatchOrRecords::ControlBatch(ControlBatchRecord::Commit);
-    }
-    ControlBatchOrRecords::Records(count_of(count))
 }
 
 // -1 stands for as many as the machine counts.
 fn count_of(n: i64) -> usize {
-    let n = Integer::from_i64(n);
-    if n.negative {
-        return 0xFFFF_FFFF_FFFF_FFFF;
-    }
-    let n = n.distance;
-    n as usize
+    usize::try_from(n).unwrap_or(usize::MAX)
 }
 
-fn with_bytes(a: Asked, source: &[u8], line: &[u8]) -> bool {
+// How far a number lies from 0, or from -1 where it is negative.
+pub fn distance(n: i64) -> usize {
+    let distance = if n < 0 { !n } else { n };
+    distance.cast_unsigned() as usize
+}
+
+fn is_written(task: Task, number: i64, source: &[u8], spelled: &[u8], rows: &[u8]) -> Option<bool> {
     let mut bytes = [0u8; LONGEST];
-    let Spelled::Count(size) = hexadecimal(word(line, 2), &mut bytes) else {
-        return false;
-    };
-    if LONGEST < size {
-        return false;
-    }
-    with_tables(a, source, after_bar(line), &bytes[..size])
-}
-
-fn with_tables(a: Asked, source: &[u8], rows: &[u8], bytes: &[u8]) -> bool {
     let mut records = [0i64; MOST];
     let mut headers = [0i64; MOST];
-    let n = before(rows, b'|');
-    let Spelled::Count(record_numbers) = fill(&rows[..n], &mut records) else {
-        return false;
-    };
-    let Spelled::Count(header_numbers) = fill(after_bar(rows), &mut headers) else {
-        return false;
-    };
-    if MOST < record_numbers {
-        return false;
-    }
-    if MOST < header_numbers {
-        return false;
-    }
-    is_written(
-        a,
-        &records[..record_numbers],
-        &headers[..header_numbers],
+    let (record_rows, header_rows) = split_at_bar(rows);
+    let case = Case {
+        task,
+        records: fill(record_rows, &mut records)?,
+        headers: fill(header_rows, &mut headers)?,
         source,
-        bytes,
-    )
-}
-
-fn is_written(a: Asked, records: &[i64], headers: &[i64], source: &[u8], bytes: &[u8]) -> bool {
-    let task = a.task;
-    let measured = measure(task, records, headers, source);
-    is_answer(measured, a.number, bytes.len())
-        && fills_every_room(a, records, headers, source, bytes)
-        && (a.number != ACCEPTED || comes_back(task, bytes))
-}
-
-fn measure(task: Task, records: &[i64], headers: &[i64], source: &[u8]) -> Written {
-    match task {
-        Task::Batch {
-            mode,
-            batch,
-            codec,
-            kind,
-        } => { batch.measure(mode, codec, kind, records, headers, source) }
-        Task::Records {
-            first_header_row,
-            count,
-            at: _,
-        } => measure_records(records, headers, first_header_row, count, source),
-    }
-}
-
-fn write(
-    task: Task,
-    records: &[i64],
-    headers: &[i64],
-    source: &[u8],
-    output: &mut [u8],
-) -> Written {
-    match task {
-        Task::Batch {
-            mode,
-            batch,
-            codec,
-            kind,
-        } => { batch.write(mode, codec, kind, records, headers, source, output) }
-        Task::Records {
-            first_header_row,
-            count,
-            at,
-        } => write_records(
-            records,
-            headers,
-            first_header_row,
-            count,
-            source,
-            output,
-            at,
-        ),
-    }
-}
-
-// The place in the output where the bytes begin.
-fn start_of(task: Task) -> usize {
-    match task {
-        Task::Batch {
-            mode: _,
-            batch: _,
-            codec: _,
-            kind: _,
-        } => 0,
-        Task::Records {
-            first_header_row: _,
-            count: _,
-            at,
-        } => at,
-    }
+        number,
+        bytes: hexadecimal(spelled, &mut bytes)?,
+    };
+    Some(case.agrees())
 }
 
 // Whether an answer is document 01's number, with a size where that is 0.
-pub fn is_answer(w: Written, number: i64, size: usize) -> bool {
+pub fn is_answer(w: Result<usize, WriteFault>, number: i64, size: usize) -> bool {
     match w {
-        Written::Bytes(n) => number == ACCEPTED && n == size,
-        Written::Refused(f) => {
-            let found = f.number();
-            found as i64 == number
-        }
+        Ok(n) => number == ACCEPTED && n == size,
+        Err(f) => i64::from(f.number()) == number,
     }
 }
 
-fn fills_every_room(
-    a: Asked,
-    records: &[i64],
-    headers: &[i64],
-    source: &[u8],
-    bytes: &[u8],
-) -> bool {
-    let mut output = [0u8; LONGEST + SPARE];
-    if LONGEST < bytes.len() {
-        return false;
+impl Case<'_> {
+    fn agrees(&self) -> bool {
+        is_answer(self.measure(), self.number, self.bytes.len())
+            && self.fills_every_room()
+            && (self.number != ACCEPTED || self.comes_back())
     }
-    let most = bytes.len() + SPARE;
-    let mut room = 0;
-    while room <= most {
-        if !fills(a, records, headers, source, bytes, &mut output, room) {
+
+    fn measure(&self) -> Result<usize, WriteFault> {
+        let Case {
+            records,
+            headers,
+            source,
+            ..
+        } = *self;
+        match self.task {
+            Task::Batch {
+                mode,
+                batch,
+                codec,
+                kind,
+            } => batch.measure(mode, codec, kind, records, headers, source),
+            Task::Records {
+                first_header_row,
+                count,
+                ..
+            } => measure_records(records, headers, first_header_row, count, source),
+        }
+    }
+
+    fn write(&self, output: &mut [u8]) -> Result<usize, WriteFault> {
+        let Case {
+            records,
+            headers,
+            source,
+            ..
+        } = *self;
+        match self.task {
+            Task::Batch {
+                mode,
+                batch,
+                codec,
+                kind,
+            } => batch.write(mode, codec, kind, records, headers, source, output),
+            Task::Records {
+                first_header_row,
+                count,
+                at,
+            } => write_records(
+                records,
+                headers,
+                first_header_row,
+                count,
+                source,
+                output,
+                at,
+            ),
+        }
+    }
+
+    // The place in the output where the bytes begin.
+    fn start(&self) -> usize {
+        match self.task {
+            Task::Batch { .. } => 0,
+            Task::Records { at, .. } => at,
+        }
+    }
+
+    fn fills_every_room(&self) -> bool {
+        let mut output = [0u8; LONGEST + SPARE];
+        (0..=self.bytes.len() + SPARE).all(|room| self.fills(&mut output, room))
+    }
+
+    // Whether the output holds just the bytes that are expected where there is room for them, and else is as it was.
+    fn fills(&self, output: &mut [u8], room: usize) -> bool {
+        blot(output);
+        let Some(space) = output.get_mut(..room) else {
             return false;
+        };
+        let written = self.write(space);
+        if self.number == ACCEPTED && !self.has_room(room) {
+            return is_answer(written, SHORT_OUTPUT, 0) && is_left(output, 0, b"");
         }
-        room += 1;
+        is_answer(written, self.number, self.bytes.len())
+            && is_left(output, self.start(), self.bytes)
     }
-    true
-}
 
-// Whether the output holds just the bytes that are expected where there is room for them, and else is as it was.
-fn fills(
-    a: Asked,
-    records: &[i64],
-    headers: &[i64],
-    source: &[u8],
-    bytes: &[u8],
-    output: &mut [u8],
-    room: usize,
-) -> bool {
-    if output.len() < room {
-        return false;
+    fn has_room(&self, room: usize) -> bool {
+        let room = room.checked_sub(self.start());
+        room.is_some_and(|room| self.bytes.len() <= room)
     }
-    let task = a.task;
-    let start = start_of(task);
-    blot(output);
-    let w = write(task, records, headers, source, &mut output[..room]);
-    if a.number == ACCEPTED && !has_room(room, start, bytes) {
-        return is_answer(w, SHORT_OUTPUT, 0) && is_left(output, 0, b"");
-    }
-    is_answer(w, a.number, bytes.len()) && is_left(output, start, bytes)
-}
 
-fn has_room(room: usize, start: usize, bytes: &[u8]) -> bool {
-    start <= room && bytes.len() <= room - start
-}
-
-fn comes_back(task: Task, bytes: &[u8]) -> bool {
-    match task {
-        Task::Batch {
-            mode,
-            batch: _,
-            codec: _,
-            kind: _,
-        } => batch_comes_back(mode, bytes),
-        Task::Records {
-            first_header_row: _,
-            count,
-            at: _,
-        } => canonical_records(bytes, 0, count),
+    fn comes_back(&self) -> bool {
+        match self.task {
+            Task::Batch { mode, .. } => batch_comes_back(mode, self.bytes),
+            Task::Records { count, .. } => canonical_records(self.bytes, 0, count),
+        }
     }
 }
 
@@ -318,21 +277,15 @@ fn comes_back(task: Task, bytes: &[u8]) -> bool {
 fn batch_comes_back(mode: ControlMode, bytes: &[u8]) -> bool {
     let mut records = [0i64; MOST];
     let mut headers = [0i64; MOST];
-    match RecordBatch::read(mode, bytes, &mut records, &mut headers) {
-        BatchRead::Accepted {
-            batch,
-            kind,
-            headers: _,
-            consumed,
-        } => {
-            let mut output = [0u8; LONGEST];
-            blot(&mut output);
-            let w = batch.write(mode, 0, kind, &records, &headers, bytes, &mut output);
-            consumed == bytes.len()
-                && RecordBatch::is_canonical(mode, bytes)
-                && is_answer(w, ACCEPTED, bytes.len())
-                && is_left(&output, 0, bytes)
-        }
-        _ => false,
-    }
+    let Ok(found) = RecordBatch::read(mode, bytes, &mut records, &mut headers) else {
+        return false;
+    };
+    let mut output = [0u8; LONGEST];
+    blot(&mut output);
+    let batch = found.batch;
+    let w = batch.write(mode, 0, found.kind, &records, &headers, bytes, &mut output);
+    found.consumed == bytes.len()
+        && RecordBatch::is_canonical(mode, bytes)
+        && is_answer(w, ACCEPTED, bytes.len())
+        && is_left(&output, 0, bytes)
 }

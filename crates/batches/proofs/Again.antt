@@ -1,5 +1,6 @@
 -- A batch that was read is asked for by what was answered of it and by the tables as they are then: so the writer gives
 -- what it writes of the batch that the bytes show, which is no longer than they are. Assumes nothing.
+use Rattle.std.specs.Prelude.{Ok}
 use Prim.Native.Nat.{ℕ, ◌≤◌}
 use mathlib.Core.Path.{◌≡◌, refl, sym, ap, ◌∙◌}
 use mathlib.Core.Bool.{true}
@@ -10,7 +11,6 @@ use lib.ListN.{length}
 use Rattle.numbers.specs.Bytes.{Bytes}
 use Rattle.records.specs.Judgement.{RecordSpans}
 use Rattle.records.specs.Rows.{Tables}
-use Rattle.writing.specs.declared.Written.{Written}
 use Rattle.writing.specs.Answers.{given, measured}
 use Rattle.writing.proofs.Single.{single_written}
 use Rattle.layout.specs.Batch.{Content, control, records}
@@ -19,7 +19,6 @@ use Rattle.markers.specs.Markers.{view_marker}
 use Rattle.layout.specs.declared.ControlMode.{ControlMode}
 use Rattle.batches.specs.declared.RecordBatch.{RecordBatch}
 use Rattle.batches.specs.declared.ControlBatchOrRecords.{ControlBatchOrRecords}
-use Rattle.batches.specs.declared.BatchRead.{BatchRead}
 use Rattle.batches.specs.Answers.{Answer, view_fields, view_kind, view_count, view_read, kind_of, records_in, rooms_of, has_room, stored, accepts, accepted_as}
 use Rattle.batches.specs.Promises.{ReadOutcome, ReadPromise}
 use Rattle.batches.specs.Writer.{marker, rows, view_wanted, wanted_of, batch_given}
@@ -46,7 +45,7 @@ module _ (mode : ControlMode) (s : List ℕ) (t : Tables) (o : ReadOutcome) (b :
     pub gives : batch_given mode (view_fields b) 0 (view_wanted kind) o.tables s ≡ given (rewritten s batch)
     pub within : length (rewritten s batch) ≤ consumed
 
-  module _ (bytes : Bytes s) (e : o.result ≡ BatchRead.Accepted b kind headers consumed) where
+  module _ (bytes : Bytes s) (e : o.result ≡ Ok (record { batch = b; kind = kind; headers = headers; consumed = consumed })) where
     abbrev answered : Answer
     answered = accepts (view_fields b) (view_kind kind) (view_count kind) headers consumed
 
@@ -80,4 +79,4 @@ module _ (mode : ControlMode) (s : List ℕ) (t : Tables) (o : ReadOutcome) (b :
 pub rewritable : Rewritable
 rewritable mode s t o b kind headers consumed r p e m =
     let x = again mode s t o b kind headers consumed p.lent e p in
-    (length (rewritten s x.batch), single_written _ r (Written.Bytes _) (m ∙ ap measured x.gives) refl, x.within)
+    (length (rewritten s x.batch), single_written _ r (Ok _) (m ∙ ap measured x.gives) refl, x.within)

@@ -1,5 +1,6 @@
 -- The canonical bytes are those of the strict grammar: what the writer gives of a batch that was read is an encoding of
 -- it by that grammar, which has no other. Assumes nothing.
+use Rattle.std.specs.Prelude.{Ok}
 use Prim.Native.Nat.{ℕ, ◌+◌}
 use mathlib.Core.Path.{◌≡◌, refl, sym, ap, ◌∙◌, subst}
 use mathlib.Core.Bool.{true}
@@ -12,7 +13,6 @@ use Rattle.numbers.specs.Bytes.{Bytes}
 use Rattle.numbers.specs.Exactly.{Exactly}
 use Rattle.primitives.proofs.Places.{whole}
 use Rattle.records.specs.Format.{Record}
-use Rattle.writing.specs.declared.Written.{Written}
 use Rattle.writing.specs.Answers.{given, answer_due, output_due}
 use Rattle.writing.proofs.Single.{single_written}
 use Rattle.writing.proofs.Outcomes.{given_same}
@@ -70,6 +70,6 @@ canonical_again mode s t o b kind headers consumed out w canonical p e h q =
     let same : x.batch ≡ c.batch = same_accepted (sym x.judged ∙ c.judged) in
     let gives = x.gives ∙ ap given (ap (rewritten s) same ∙ canonical_written mode s bytes c) in
     let room = le-leb (0 + length s) (length out) (omega arith) in (
-      single_written _ w.result (Written.Bytes (length s)) (q.by.answer ∙ ap (answer_due 0 out) gives ∙ rw room) refl,
+      single_written _ w.result (Ok (length s)) (q.by.answer ∙ ap (answer_due 0 out) gives ∙ rw room) refl,
       q.by.output ∙ ap (output_due 0 out) gives ∙ rw (room, zero-add),
     )

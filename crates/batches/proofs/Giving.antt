@@ -1,5 +1,7 @@
 -- What the writer gives of a batch, from what is given of its records: the fixed fields in front of them, as many bytes
 -- more, or the same refusal. The premises have the form in which a proof finds them. Assumes nothing.
+use Rattle.std.specs.Prelude.{Result, Ok, Err, IsErrAnd}
+use Rattle.primitives.proofs.Exits.{exit}
 use Prim.Native.Nat.{ℕ, ◌+◌, ◌-◌, ◌^◌, ◌≤◌, ◌<◌}
 use mathlib.Core.Path.{◌≡◌, refl, sym, ap, ◌∙◌, subst}
 use mathlib.Core.Bool.{Bool, true, false}
@@ -31,7 +33,6 @@ use Rattle.asking.specs.Asked.{RowPlace, row_place, records_asked}
 use Rattle.asking.specs.Answers.{write_number_of}
 use Rattle.asking.proofs.Accepted.{asked_many}
 use Rattle.asking.proofs.Refusals.{RowFault, records_refused}
-use Rattle.writing.specs.declared.Written.{Written}
 use Rattle.writing.specs.Answers.{Answer, writes, refuses, view_written, Given, given, refused, most_bytes, records_given, measured, over, answer_due, output_due}
 use Rattle.writing.specs.Promises.{WriteOutcome, WriteBy}
 use Rattle.writing.proofs.Outcomes.{numbers, apart, given_same, put, over_length}
@@ -94,7 +95,7 @@ module _ (b : Batch Record) where
   pub finished : (out out' : List ℕ) (end : ℕ) (count : ℤ) (output : List ℕ) → end ≡ fixed_part + length body → end ≤ length out
       → out' ≡ over fixed_part body out → count ≡ count_put
       → output ≡ fixed_before b.fields (pos (end - uncounted)) attributes_put count (take (end - fixed_part) (drop fixed_part out')) ++ drop fixed_part out'
-      → WriteBy (given (written_batch b)) 0 out (record { result = Written.Bytes end; output = output })
+      → WriteBy (given (written_batch b)) 0 out (record { result = Ok end; output = output })
   finished out out' end count output ends room is same e =
       let long : 0 + length (written_batch b) ≡ end = omega (arith, written_length) in
       let rest : List ℕ = drop end out in
@@ -118,7 +119,7 @@ module _ (b : Batch Record) where
 
   -- there is no room for it
   pub unfinished : (out : List ℕ) → length out < fixed_part + length body
-      → WriteBy (given (written_batch b)) 0 out (record { result = Written.Refused WriteFault.ShortOutput; output = out })
+      → WriteBy (given (written_batch b)) 0 out (record { result = Err WriteFault.ShortOutput; output = out })
   unfinished out h =
       let short = lt-leb (0 + length (written_batch b)) (length out) (omega (arith, written_length)) in
       record { answer = rw short; output = rw short }
@@ -142,13 +143,13 @@ module _ (x : Fields) where
 -- what was put into the output is in its place there
 module _ (x : Fields) (m : Marker) (out : List ℕ) where
   pub marker_short : length out < marked_size
-      → WriteBy (given (written_batch (marks x m))) 0 out (record { result = Written.Refused WriteFault.ShortOutput; output = out })
+      → WriteBy (given (written_batch (marks x m))) 0 out (record { result = Err WriteFault.ShortOutput; output = out })
   marker_short h = unfinished (marks x m) out (omega (arith, marker_length m))
 
   pub marker_written : (out' : List ℕ) (next : ℕ) (output : List ℕ) → marked_size ≤ length out
       → PutPromise (written_control m) out fixed_part (record { next = next; output = out' })
       → output ≡ fixed_before x (pos (marked_size - uncounted)) (pos (attributes_for x 1)) (pos 1) (take (marked_size - fixed_part) (drop fixed_part out')) ++ drop fixed_part out'
-      → WriteBy (given (written_batch (marks x m))) 0 out (record { result = Written.Bytes marked_size; output = output })
+      → WriteBy (given (written_batch (marks x m))) 0 out (record { result = Ok marked_size; output = output })
   unfolding written_content
   marker_written out' next output room put e =
       let eleven = marker_length m in
@@ -216,9 +217,9 @@ module _ (mode : ControlMode) (x : Fields) (codec : ℕ) (kind : ControlBatchOrR
   pub measure_codec : (codec ≡ 0 → ⊥) → refuses 20 ≡ measured gives
   measure_codec h = ap measured (sym (codec_other h))
 
-  pub write_codec : (out : List ℕ) → (codec ≡ 0 → ⊥) → WriteBy gives 0 out (record { result = Written.Refused WriteFault.Codec; output = out })
+  pub write_codec : (out : List ℕ) → (codec ≡ 0 → ⊥) → WriteBy gives 0 out (record { result = Err WriteFault.Codec; output = out })
   write_codec out h =
-      subst (λ (g : Given). WriteBy g 0 out (record { result = Written.Refused WriteFault.Codec; output = out })) (sym (codec_other h))
+      subst (λ (g : Given). WriteBy g 0 out (record { result = Err WriteFault.Codec; output = out })) (sym (codec_other h))
       (record { answer = refl; output = refl })
 
   module _ (e : codec ≡ 0) where
@@ -249,9 +250,9 @@ module _ (mode : ControlMode) (x : Fields) (codec : ℕ) (kind : ControlBatchOrR
         pub measure_bare : refuses 41 ≡ measured gives
         measure_bare = ap measured (sym bare_gives)
 
-        pub write_bare : (out : List ℕ) → WriteBy gives 0 out (record { result = Written.Refused WriteFault.BareMarker; output = out })
+        pub write_bare : (out : List ℕ) → WriteBy gives 0 out (record { result = Err WriteFault.BareMarker; output = out })
         write_bare out =
-            subst (λ (g : Given). WriteBy g 0 out (record { result = Written.Refused WriteFault.BareMarker; output = out })) (sym bare_gives)
+            subst (λ (g : Given). WriteBy g 0 out (record { result = Err WriteFault.BareMarker; output = out })) (sym bare_gives)
             (record { answer = refl; output = refl })
 
     module _ (n : ℕ) (f : kind ≡ ControlBatchOrRecords.Records n) where
@@ -261,23 +262,22 @@ module _ (mode : ControlMode) (x : Fields) (codec : ℕ) (kind : ControlBatchOrR
       rows_give : gives ≡ batch_given_by x s (map_step records asked)
       rows_give = codec_none e (ControlBatchOrRecords.Records n) f
 
-      module _ (r : Written) (p : view_written r ≡ measured (records_given s asked)) where
-        known : Beside x s asked (records_given s asked) (batch_given_by x s (map_step records asked))
-        known = beside x s asked (records_refused t s 0 n)
+      known : Beside x s asked (records_given s asked) (batch_given_by x s (map_step records asked))
+      known = beside x s asked (records_refused t s 0 n)
 
-        pub measure_rows : (size : ℕ) → r ≡ Written.Bytes size → writes (fixed_part + size) ≡ measured gives
-        measure_rows size h = (measured_bytes known size (ap view_written (sym h) ∙ p)).1 ∙ ap measured (sym rows_give)
+      pub measure_rows : (size : ℕ) → view_written (Ok size) ≡ measured (records_given s asked) → writes (fixed_part + size) ≡ measured gives
+      measure_rows size p = (measured_bytes known size p).1 ∙ ap measured (sym rows_give)
 
-        pub measure_refused : (fault : WriteFault) → r ≡ Written.Refused fault → refuses (write_number_of fault) ≡ measured gives
-        measure_refused fault h = measured_refused known fault (ap view_written (sym h) ∙ p) ∙ ap measured (sym rows_give)
+      pub measure_refused : (fault : WriteFault) → view_written (Err fault) ≡ measured (records_given s asked)
+          → (r : Result ℕ WriteFault) → IsErrAnd r (λ e. e ≡ fault) → view_written r ≡ measured gives
+      measure_refused fault p r y = ap view_written (exit r y) ∙ measured_refused known fault p ∙ ap measured (sym rows_give)
 
       pub write_asked : (out : List ℕ) (o : WriteOutcome) → WriteBy (batch_given_by x s (map_step records asked)) 0 out o → WriteBy gives 0 out o
       write_asked out o w = subst (λ (g : Given). WriteBy g 0 out o) (sym rows_give) w
 
-pub measured_small : (x : Fields) (t : Tables) (s : List ℕ) (n : ℕ) (r : Written) (size : ℕ)
-    → view_written r ≡ measured (records_given s (records_asked t s 0 n)) → r ≡ Written.Bytes size → size ≤ most_bytes
-measured_small x t s n r size p h =
-    (measured_bytes (beside x s (records_asked t s 0 n) (records_refused t s 0 n)) size (ap view_written (sym h) ∙ p)).0
+pub measured_small : (x : Fields) (t : Tables) (s : List ℕ) (n size : ℕ)
+    → view_written (Ok size) ≡ measured (records_given s (records_asked t s 0 n)) → size ≤ most_bytes
+measured_small x t s n size p = (measured_bytes (beside x s (records_asked t s 0 n) (records_refused t s 0 n)) size p).0
 
 -- ---- written
 
@@ -297,7 +297,7 @@ module _ (x : Fields) (s : List ℕ) (asked : Step RowPlace (List RecordSpans)) 
       → Wrote size h
   wrote (both rs p is short) size e f =
       let bs = written_records (shown_records s rs) in
-      let y = put (given bs) tt fixed_part size out (record { result = Written.Bytes size; output = out' }) e f in
+      let y = put (given bs) tt fixed_part size out (record { result = Ok size; output = out' }) e f in
       let same : y.bytes ≡ bs = given_same (sym y.is) in
       let long : size ≡ length bs = sym y.length_is ∙ ap length same in
       record {
@@ -314,31 +314,33 @@ module _ (x : Fields) (s : List ℕ) (asked : Step RowPlace (List RecordSpans)) 
 
   refused_by_lem : (room : Bool) (b : Batch Record) (f : WriteFault) (n : ℕ) → leb (fixed_part + length (written_content b.content)) (length out) ≡ room
       → refuses (write_number_of f) ≡ pick room (writes n) (refuses 24) → out' ≡ pick room (over fixed_part (written_content b.content) out) out
-      → WriteBy (given (written_batch b)) 0 out (record { result = Written.Refused f; output = out' })
+      → WriteBy (given (written_batch b)) 0 out (record { result = Err f; output = out' })
   refused_by_lem true b f n h e is = apart f e
   refused_by_lem false b f n h e is =
       let w = unfinished b out (leb-false _ _ h) in
       record { answer = e ∙ w.answer; output = is ∙ w.output }
 
   not_wrote : {g h : Given} → Beside x s asked g h → (f : WriteFault) → refuses (write_number_of f) ≡ answer_due fixed_part out g
-      → out' ≡ output_due fixed_part out g → WriteBy h 0 out (record { result = Written.Refused f; output = out' })
+      → out' ≡ output_due fixed_part out g → WriteBy h 0 out (record { result = Err f; output = out' })
   unfolding written_content
   not_wrote (both rs p _ short) f e is = refused_by_lem _ (shows x s (records rs)) f _ refl e is
   not_wrote (neither n some) f e is = record { answer = e; output = is }
 
-module _ (x : Fields) (t : Tables) (s : List ℕ) (n : ℕ) (r : Written) (out out' : List ℕ)
-    (p : WriteBy (records_given s (records_asked t s 0 n)) fixed_part out (record { result = r; output = out' })) where
+module _ (x : Fields) (t : Tables) (s : List ℕ) (n : ℕ) (out out' : List ℕ) where
   abbrev asked_rows : Step RowPlace (List RecordSpans)
   asked_rows = records_asked t s 0 n
 
-  pub rows_refused : (f : WriteFault) → r ≡ Written.Refused f
-      → WriteBy (batch_given_by x s (map_step records asked_rows)) 0 out (record { result = Written.Refused f; output = out' })
-  rows_refused f h =
-      not_wrote x s asked_rows out out' (beside x s asked_rows (records_refused t s 0 n)) f (ap view_written (sym h) ∙ p.answer) p.output
+  pub rows_refused : (f : WriteFault) → WriteBy (records_given s asked_rows) fixed_part out (record { result = Err f; output = out' })
+      → (r : Result ℕ WriteFault) → IsErrAnd r (λ e. e ≡ f)
+      → WriteBy (batch_given_by x s (map_step records asked_rows)) 0 out (record { result = r; output = out' })
+  rows_refused f p r y =
+      subst (λ (z : Result ℕ WriteFault). WriteBy (batch_given_by x s (map_step records asked_rows)) 0 out (record { result = z; output = out' }))
+      (sym (exit r y))
+      (not_wrote x s asked_rows out out' (beside x s asked_rows (records_refused t s 0 n)) f p.answer p.output)
 
-  module _ (size : ℕ) (h : r ≡ Written.Bytes size) where
+  module _ (size : ℕ) (p : WriteBy (records_given s asked_rows) fixed_part out (record { result = Ok size; output = out' })) where
     rows_wrote : Wrote x s asked_rows out out' size (batch_given_by x s (map_step records asked_rows))
-    rows_wrote = wrote x s asked_rows out out' (beside x s asked_rows (records_refused t s 0 n)) size (ap view_written (sym h) ∙ p.answer) p.output
+    rows_wrote = wrote x s asked_rows out out' (beside x s asked_rows (records_refused t s 0 n)) size p.answer p.output
 
     abbrev batch : Batch Record
     batch = shows x s (records rows_wrote.rs)
@@ -366,10 +368,10 @@ module _ (x : Fields) (t : Tables) (s : List ℕ) (n : ℕ) (r : Written) (out o
 
     pub rows_written : (output : List ℕ)
         → output ≡ fixed_before x (pos (fixed_part + size - uncounted)) (pos (attributes_for x 0)) (to_z w32 n) (take (fixed_part + size - fixed_part) (drop fixed_part out')) ++ drop fixed_part out'
-        → WriteBy (batch_given_by x s (map_step records asked_rows)) 0 out (record { result = Written.Bytes (fixed_part + size); output = output })
+        → WriteBy (batch_given_by x s (map_step records asked_rows)) 0 out (record { result = Ok (fixed_part + size); output = output })
     unfolding written_content
     rows_written output e =
         let w = rows_wrote in
         let count = to_z_pos w32 n rows_sizes.many ∙ ap pos (sym many_is) in
-        subst (λ (g : Given). WriteBy g 0 out (record { result = Written.Bytes (fixed_part + size); output = output })) (sym w.gives)
+        subst (λ (g : Given). WriteBy g 0 out (record { result = Ok (fixed_part + size); output = output })) (sym w.gives)
         (finished batch out out' (fixed_part + size) (to_z w32 n) output (ap (λ (k : ℕ). fixed_part + k) w.size_is) w.room w.output_is count e)

@@ -1,5 +1,6 @@
 -- "More bytes" comes only where a length says so, and "no room" only where a batch is accepted and a table is short:
 -- the number of an answer tells which judgement it is by, since a refusal is by none but `Standing`. Assumes nothing.
+use Rattle.std.specs.Prelude.{Err}
 use Prim.Native.Nat.{ℕ, ◌+◌, ◌/◌, ◌<◌}
 use mathlib.Core.Path.{◌≡◌, refl, sym, ap, ◌∙◌, subst}
 use mathlib.Core.Bool.{false, true≢false}
@@ -14,7 +15,7 @@ use Rattle.records.specs.Rows.{Tables}
 use Rattle.layout.specs.Batch.{Content, control, records}
 use Rattle.opening.specs.Judgement.{way_of, Judgement, Judged, more, refused, accepted, Accepted, Control, judgement_of, whole_at, judge_whole, judge_with, total_at, judge}
 use Rattle.opening.proofs.Tests.{Totals, few, low, short, unknown, lacking, there, totals, total_is}
-use Rattle.batches.specs.declared.BatchRead.{BatchRead}
+use Rattle.batches.specs.declared.ReadError.{ReadError}
 use Rattle.batches.specs.Answers.{Standing, Answer, view_read, wants, lacks_room, records_in, headers_of, rooms_of, has_room, answer_of}
 use Rattle.batches.specs.Promises.{ReadOutcome, ReadBy}
 use Rattle.batches.specs.Statements.{moved_judgement}
@@ -121,7 +122,7 @@ rows_short b t n m f x y = rw (f, ← x, ← y) (table_short b.content t)
 pub more_bytes_with : MoreBytesWith
 more_bytes_with way within at first s t o n e = (
   λ w. judged_lacks way s at first n (wants_by _ (refusals way within s at first) t o e n (ap view_read w)),
-  λ l. view_read_injective o.result (BatchRead.MoreBytes n) (e.answer ∙ by_wants _ t n (lacks_judged way s at first n l)),
+  λ l. view_read_injective o.result (Err (ReadError.MoreBytes n)) (e.answer ∙ by_wants _ t n (lacks_judged way s at first n l)),
 )
 
 pub more_bytes : MoreBytes
@@ -130,7 +131,7 @@ more_bytes mode s t o n e = more_bytes_with (way_of mode) (ways_within mode) 0 0
 pub no_room_with : NoRoomWith
 no_room_with way within at first s t o n m e = (
   λ w. lacks_room_by _ (refusals way within s at first) t o e n m (ap view_read w),
-  λ x. view_read_injective o.result (BatchRead.NoRoom n m) (e.answer ∙ by_lacks_room _ t n m x),
+  λ x. view_read_injective o.result (Err (ReadError.NoRoom n m)) (e.answer ∙ by_lacks_room _ t n m x),
 )
 
 pub no_room : NoRoom

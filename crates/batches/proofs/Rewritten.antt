@@ -1,12 +1,12 @@
 -- Two batches that give the same bytes are equal, since an encoding has one meaning; and what is given is canonical,
 -- since it is of the strict grammar. Assumes nothing.
+use Rattle.std.specs.Prelude.{Ok}
 use Prim.Native.Nat.{ℕ}
 use mathlib.Core.Path.{◌≡◌, sym, ◌∙◌, subst}
 use mathlib.Core.Bool.{true}
 use mathlib.Core.List.{List, [], append-nil}
 use lib.ListN.{take}
 use Rattle.records.specs.Judgement.{RecordSpans}
-use Rattle.writing.specs.declared.Written.{Written}
 use Rattle.writing.specs.Promises.{WriteOutcome}
 use Rattle.layout.specs.Batch.{Content}
 use Rattle.layout.specs.Format.{BatchBytes}
@@ -22,7 +22,7 @@ use Rattle.batches.proofs.Written.{written, written_begins}
 
 -- the output begins with an encoding of the batch that was asked for
 written_asked : (q : Request) (out : List ℕ) (o : WriteOutcome) (n : ℕ) (c : Content RecordSpans) → Writes q out o
-    → o.result ≡ Written.Bytes n → Asks q c → BatchBytes q.mode true (take n o.output) (batch_asked q c)
+    → o.result ≡ Ok n → Asks q c → BatchBytes q.mode true (take n o.output) (batch_asked q c)
 written_asked q out o n c promise e asks =
     let w = written q out o n promise e in
     rw (written_begins w)

@@ -22,10 +22,12 @@ use Rattle.layout.specs.declared.ControlMode.{ControlMode}
 use Rattle.batches.specs.declared.body.BodyReader.{BodyReader}
 use Rattle.batches.specs.declared.RecordBatch.{RecordBatch}
 use Rattle.batches.specs.declared.ControlBatchOrRecords.{ControlBatchOrRecords}
-use Rattle.batches.specs.declared.BatchCheck.{BatchCheck}
-use Rattle.batches.specs.declared.BatchRead.{BatchRead}
+use Rattle.batches.specs.declared.BatchFound.{BatchFound}
+use Rattle.batches.specs.declared.ReadError.{ReadError}
+use Rattle.opening.specs.declared.OpenError.{OpenError}
+use Rattle.std.specs.Prelude.{Result, Ok, Err}
 use Rattle.batches.specs.Answers.{Kind, of_records, of_marker, Answer, view_fields, view_kind, view_count, view_check, view_read}
-use Rattle.batches.specs.Promises.{TotalSizePromise, CheckPromise, ReadBy, ReadPromise, BodyReaderPromise, ReadBodyPromise, ReadHeldPromise, RecordTimePromise, MeasurePromise, WritePromise, Canonical, CanonicalPromise}
+use Rattle.batches.specs.Promises.{TotalSizePromise, CheckPromise, ReadBy, ReadPromise, BodyReaderPromise, ReadBodyPromise, ReadHeldPromise, RecordCountPromise, RecordTimePromise, MeasurePromise, WritePromise, Canonical, CanonicalPromise}
 
 pub single_total_size : (n : ℤ) → Single (TotalSizePromise n)
 single_total_size n = single_value _
@@ -69,34 +71,38 @@ acceptance accepted other none k n = other
 
 -- ---- an answer, made from what it says
 
-abbrev pub check : Answer → BatchCheck
+abbrev pub check : Answer → Result BatchFound OpenError
 check a =
-    acceptance (λ b k. BatchCheck.Accepted b k a.headers a.bytes)
-    (refusal (BatchCheck.MoreBytes a.bytes) (BatchCheck.MoreBytes a.bytes) BatchCheck.Refused a.number)
+    acceptance (λ b k. Ok (record { batch = b; kind = k; headers = a.headers; consumed = a.bytes }))
+    (Err (refusal (OpenError.MoreBytes a.bytes) (OpenError.MoreBytes a.bytes) OpenError.Refused a.number))
     a.fields a.kind a.records
 
-pub check_again : (r : BatchCheck) → check (view_check r) ≡ r
-check_again (BatchCheck.Accepted b k m bytes) = λ i. BatchCheck.Accepted (batch_again b i) (kind_again k i) m bytes
-check_again (BatchCheck.MoreBytes bytes) = refl
-check_again (BatchCheck.Refused f) = refusal_again _ _ BatchCheck.Refused f
+found_again : {E : Type 0} (x : BatchFound)
+    → ◌≡◌ {A = Result BatchFound E} (Ok (record { batch = batch (view_fields x.batch); kind = kind (view_kind x.kind) (view_count x.kind); headers = x.headers; consumed = x.consumed })) (Ok x)
+found_again x = λ i. Ok (record { batch = batch_again x.batch i; kind = kind_again x.kind i; headers = x.headers; consumed = x.consumed })
 
-abbrev pub read : Answer → BatchRead
+pub check_again : (r : Result BatchFound OpenError) → check (view_check r) ≡ r
+check_again (Ok x) = found_again x
+check_again (Err (OpenError.MoreBytes bytes)) = refl
+check_again (Err (OpenError.Refused f)) = ap Err (refusal_again _ _ OpenError.Refused f)
+
+abbrev pub read : Answer → Result BatchFound ReadError
 read a =
-    acceptance (λ b k. BatchRead.Accepted b k a.headers a.bytes)
-    (refusal (BatchRead.MoreBytes a.bytes) (BatchRead.NoRoom a.records a.headers) BatchRead.Refused a.number)
+    acceptance (λ b k. Ok (record { batch = b; kind = k; headers = a.headers; consumed = a.bytes }))
+    (Err (refusal (ReadError.MoreBytes a.bytes) (ReadError.NoRoom a.records a.headers) ReadError.Refused a.number))
     a.fields a.kind a.records
 
-pub read_again : (r : BatchRead) → read (view_read r) ≡ r
-read_again (BatchRead.Accepted b k m bytes) = λ i. BatchRead.Accepted (batch_again b i) (kind_again k i) m bytes
-read_again (BatchRead.MoreBytes bytes) = refl
-read_again (BatchRead.Refused f) = refusal_again _ _ BatchRead.Refused f
-read_again (BatchRead.NoRoom n m) = refl
+pub read_again : (r : Result BatchFound ReadError) → read (view_read r) ≡ r
+read_again (Ok x) = found_again x
+read_again (Err (ReadError.MoreBytes bytes)) = refl
+read_again (Err (ReadError.Refused f)) = ap Err (refusal_again _ _ ReadError.Refused f)
+read_again (Err (ReadError.NoRoom n m)) = refl
 
 -- answers that say the same are the same
-pub view_check_injective : (r r' : BatchCheck) → view_check r ≡ view_check r' → r ≡ r'
+pub view_check_injective : (r r' : Result BatchFound OpenError) → view_check r ≡ view_check r' → r ≡ r'
 view_check_injective r r' e = single_view view_check check check_again (view_check r') r r' e refl
 
-pub view_read_injective : (r r' : BatchRead) → view_read r ≡ view_read r' → r ≡ r'
+pub view_read_injective : (r r' : Result BatchFound ReadError) → view_read r ≡ view_read r' → r ≡ r'
 view_read_injective r r' e = single_view view_read read read_again (view_read r') r r' e refl
 
 -- ---- the promises
@@ -124,6 +130,9 @@ single_read_held r count first t o o' e e' =
     let p = single_read_body r.body.now r.at count first t o.read o'.read e.read e'.read in
     let q = e.body ∙ sym e'.body in
     λ i. record { read = p i; body = q i }
+
+pub single_record_count : (k : ControlBatchOrRecords) → Single (RecordCountPromise k)
+single_record_count k = single_value _
 
 pub single_record_time : (b : RecordBatch) (delta : ℤ) → Single (RecordTimePromise b delta)
 single_record_time b delta = single_view view_time time time_again _

@@ -17,7 +17,6 @@ use mir.Val.{Fits}
 use Rattle.numbers.specs.Bytes.{Bytes}
 use Rattle.numbers.specs.Format.{Unsigned}
 use Rattle.numbers.proofs.Picks.{both_hold}
-use Rattle.primitives.specs.declared.Cursor.{Cursor}
 use Rattle.primitives.specs.Step.{Step, ok, no, map_step}
 use Rattle.primitives.specs.Stands.{Stands}
 use Rattle.primitives.specs.Reading.{big, signed_by}
@@ -30,17 +29,18 @@ use Rattle.records.specs.Placed.{placed_records, shown_record}
 use Rattle.records.proofs.Complete.{records_complete}
 use Rattle.records.proofs.Shows.{records_shows}
 use Rattle.records.proofs.Sound.{records_sound}
-use Rattle.layout.specs.declared.BatchFields.{BatchFields}
 use Rattle.layout.specs.Fixed.{view_batch_fields}
 use Rattle.layout.specs.Batch.{Fields, Marker, Content, control, records, Batch}
 use Rattle.layout.specs.Format.{grammar_of, attributes_of, Counts, exactly, minus_one, ContentBytes, BatchBytes}
 use Rattle.layout.proofs.Flags.{timestamp_small, bit_small, control_small}
-use Rattle.opening.specs.declared.BatchFault.{BatchFault}
+use Rattle.std.specs.Prelude.{Result, Ok, Err}
 use Rattle.opening.specs.declared.Opened.{Opened}
+use Rattle.opening.specs.declared.OpenError.{OpenError}
 use Rattle.opening.specs.Statements.{Inside}
 use Rattle.opening.specs.Judgement.{way_of, accepted, Accepted, content_at, judge}
 use Rattle.opening.specs.Opened.{KnownAt, open_at, as_accepted, judged_as, judged_from}
-use Rattle.opening.specs.Answers.{view_opened}
+use Rattle.opening.specs.Answers.{view_known_at}
+use Rattle.batches.proofs.Answering.{view_opened}
 use Rattle.opening.proofs.Judging.{judged_by_opening, opened_inside}
 use Rattle.opening.proofs.Verdicts.{more_not_accepted, refused_not_accepted, same_accepted}
 use Rattle.canonical.specs.Promises.{StandStrictly, CanonicalRecordsPromise}
@@ -193,14 +193,12 @@ stands_strictly mode {s} {p} {bs} (records rs) x g spans e many =
     let count = ap length (sym (records_shows x g)) ∙ length-map (placed_records p g) (shown_record s) ∙ ap length same ∙ many in
     (rs, record { bytes = bs; stands = x; encodes = g }, count)
 
-abbrev known_of : BatchFields → Bool → ℕ → Cursor → ℕ → KnownAt
-known_of x is_control n next total =
-    record { known = record { fields = view_batch_fields x; control = is_control; count = n }; next = next.at; total = total }
+module _ (s : List ℕ) (x : Opened) (e : view_opened (Ok x) ≡ open_at s 0) where
+  abbrev known : KnownAt
+  known = view_known_at x
 
-module _ (s : List ℕ) (a : Opened) (e : view_opened a ≡ open_at s 0) (x : BatchFields) (is_control : Bool) (n : ℕ) (next : Cursor) (total : ℕ)
-    (f : a ≡ Opened.Got x is_control n next total) where
-  opened_ends : Inside s 0 (known_of x is_control n next total)
-  opened_ends = opened_inside s 0 (known_of x is_control n next total) (sym e ∙ ap view_opened f)
+  opened_ends : Inside s 0 known
+  opened_ends = opened_inside s 0 known (sym e)
 
   pub opened_fixed : 61 ≤ length s
   opened_fixed = omega (arith, opened_ends.fixed, opened_ends.end)
@@ -226,121 +224,115 @@ module _ (mode : ControlMode) (s : List ℕ) (fits : (i : ℕ) → Fits w8 (get_
       subst (λ (bs : List ℕ). BatchBytes mode false bs (shown_batch s a))
       (sym (all_left (subst (λ (q : ℕ). Stands s 0 q e.bytes) end e.stands))) e.encodes
 
-  module _ (a : Opened) (e : view_opened a ≡ open_at s 0) where
-    judged : (x : Opened) → a ≡ x → judge mode s ≡ judged_from (way_of mode) s 0 0 (view_opened x)
-    judged x f = judged_by_opening (way_of mode) s 0 0 ∙ ap (judged_from (way_of mode) s 0 0) (sym e ∙ ap view_opened f)
+  judged : (a : Result Opened OpenError) → view_opened a ≡ open_at s 0 → judge mode s ≡ judged_from (way_of mode) s 0 0 (view_opened a)
+  judged a e = judged_by_opening (way_of mode) s 0 0 ∙ ap (judged_from (way_of mode) s 0 0) (sym e)
 
-    pub canonical_more : (n : ℕ) → a ≡ Opened.MoreBytes n → CanonicalPromise mode s false
-    canonical_more n f = never (λ c. more_not_accepted (sym (judged (Opened.MoreBytes n) f) ∙ c.judged))
+  pub canonical_unopened : (f : OpenError) → view_opened (Err f) ≡ open_at s 0 → CanonicalPromise mode s false
+  canonical_unopened (OpenError.MoreBytes n) e = never (λ c. more_not_accepted (sym (judged (Err (OpenError.MoreBytes n)) e) ∙ c.judged))
+  canonical_unopened (OpenError.Refused h) e = never (λ c. refused_not_accepted (sym (judged (Err (OpenError.Refused h)) e) ∙ c.judged))
 
-    pub canonical_refused : (h : BatchFault) → a ≡ Opened.Refused h → CanonicalPromise mode s false
-    canonical_refused h f = never (λ c. refused_not_accepted (sym (judged (Opened.Refused h) f) ∙ c.judged))
+  module _ (x : Opened) (e : view_opened (Ok x) ≡ open_at s 0) where
+    ends : Inside s 0 (known s x e)
+    ends = opened_ends s x e
 
-    module _ (x : BatchFields) (is_control : Bool) (n : ℕ) (next : Cursor) (total : ℕ) (f : a ≡ Opened.Got x is_control n next total) where
-      abbrev known : KnownAt
-      known = known_of x is_control n next total
+    -- the marker or the records, in the batch's window
+    abbrev inside : Step ℕ (Content RecordSpans)
+    inside = content_at (way_of mode) x.is_control (take (0 + x.total) s) x.count x.next.at
 
-      ends : Inside s 0 known
-      ends = opened_ends s a e x is_control n next total f
+    judged_inside : judge mode s ≡ judged_as (view_batch_fields x.fields) 0 x.total inside
+    judged_inside = judged (Ok x) e
 
-      -- the marker or the records, in the batch's window
-      abbrev inside : Step ℕ (Content RecordSpans)
-      inside = content_at (way_of mode) is_control (take (0 + total) s) n next.at
+    pub canonical_longer : (x.total ≡ length s → ⊥) → CanonicalPromise mode s false
+    canonical_longer h =
+        never (λ c.
+        let (_, _, _, is) = judged_as_lem (view_batch_fields x.fields) 0 x.total inside (sym judged_inside ∙ c.judged) in
+        h (sym (ap (λ (x : Accepted). x.consumed) is) ∙ c.whole))
 
-      judged_inside : judge mode s ≡ judged_as (view_batch_fields x) 0 total inside
-      judged_inside = judged (Opened.Got x is_control n next total) f
-
-      pub canonical_longer : (total ≡ length s → ⊥) → CanonicalPromise mode s false
-      canonical_longer h =
+    module _ (all : x.total ≡ length s) (t : Bool) (tested : t ≡ tight s) where
+      pub canonical_loose : not t ≡ true → CanonicalPromise mode s false
+      canonical_loose h =
           never (λ c.
-          let (_, _, _, is) = judged_as_lem (view_batch_fields x) 0 total inside (sym judged_inside ∙ c.judged) in
-          h (sym (ap (λ (x : Accepted). x.consumed) is) ∙ c.whole))
+          let (b', g) = (canonical_is_strict mode s bytes_are).0 c in
+          let low = tested ∙ low_tight s (strict_low mode s b' bytes_are g) in
+          let z : ◌≡◌ {A = Bool} true false = sym low ∙ not-true t h in
+          let w : ◌≡◌ {A = ℕ} 0 1 = cc in
+          omega arith)
 
-      module _ (all : total ≡ length s) (t : Bool) (tested : t ≡ tight s) where
-        pub canonical_loose : not t ≡ true → CanonicalPromise mode s false
-        canonical_loose h =
-            never (λ c.
-            let (b', g) = (canonical_is_strict mode s bytes_are).0 c in
-            let low = tested ∙ low_tight s (strict_low mode s b' bytes_are g) in
-            let z : ◌≡◌ {A = Bool} true false = sym low ∙ not-true t h in
-            let w : ◌≡◌ {A = ℕ} 0 1 = cc in
-            omega arith)
+      module _ (passed : not t ≡ false) where
+        -- the window is all of the bytes
+        window : take (0 + x.total) s ≡ s
+        window = take_all (0 + x.total) s (omega arith)
 
-        module _ (passed : not t ≡ false) where
-          -- the window is all of the bytes
-          window : take (0 + total) s ≡ s
-          window = take_all (0 + total) s (omega arith)
+        abbrev read : Bool → Step ℕ (Content RecordSpans)
+        read k = content_at (way_of mode) k s x.count x.next.at
 
-          abbrev read : Bool → Step ℕ (Content RecordSpans)
-          read k = content_at (way_of mode) k s n next.at
+        inside_is : (k : Bool) → x.is_control ≡ k → inside ≡ read k
+        inside_is k h = λ i. content_at (way_of mode) (h i) (window i) x.count x.next.at
 
-          inside_is : (k : Bool) → is_control ≡ k → inside ≡ read k
-          inside_is k h = λ i. content_at (way_of mode) (h i) (window i) n next.at
+        abbrev accepts : Content RecordSpans → Accepted
+        accepts c = as_accepted (view_batch_fields x.fields) 0 x.total c
 
-          abbrev accepts : Content RecordSpans → Accepted
-          accepts c = as_accepted (view_batch_fields x) 0 total c
+        -- what was read is what was accepted
+        read_judged : (k : Bool) → x.is_control ≡ k → (c : Content RecordSpans) (p : ℕ) → read k ≡ ok c p → judge mode s ≡ accepted (accepts c)
+        read_judged k h c p r = judged_inside ∙ ap (judged_as (view_batch_fields x.fields) 0 x.total) (inside_is k h ∙ r)
 
-          -- what was read is what was accepted
-          read_judged : (k : Bool) → is_control ≡ k → (c : Content RecordSpans) (p : ℕ) → read k ≡ ok c p → judge mode s ≡ accepted (accepts c)
-          read_judged k h c p r = judged_inside ∙ ap (judged_as (view_batch_fields x) 0 total) (inside_is k h ∙ r)
+        judged_read : (k : Bool) → x.is_control ≡ k → (a : Accepted) → judge mode s ≡ accepted a
+            → (c : Content RecordSpans) × (p : ℕ) × (read k ≡ ok c p) × (a ≡ accepts c)
+        judged_read k h a j =
+            let (c, p, r, is) = judged_as_lem (view_batch_fields x.fields) 0 x.total inside (sym judged_inside ∙ j) in
+            (c, p, sym (inside_is k h) ∙ r, is)
 
-          judged_read : (k : Bool) → is_control ≡ k → (a : Accepted) → judge mode s ≡ accepted a
-              → (c : Content RecordSpans) × (p : ℕ) × (read k ≡ ok c p) × (a ≡ accepts c)
-          judged_read k h a j =
-              let (c, p, r, is) = judged_as_lem (view_batch_fields x) 0 total inside (sym judged_inside ∙ j) in
-              (c, p, sym (inside_is k h) ∙ r, is)
+        abbrev grammar : Content RecordSpans → Type 0
+        grammar c = BatchBytes mode false s (shown_batch s (accepts c))
 
-          abbrev grammar : Content RecordSpans → Type 0
-          grammar c = BatchBytes mode false s (shown_batch s (accepts c))
+        read_canonical : (c : Content RecordSpans) (g : grammar c) → ContentBytes (grammar_of mode) true g.body (shown_batch s (accepts c)).content → Canonical mode s
+        read_canonical c g holds =
+            strict_canonical (shown_batch s (accepts c)) (strictly mode s _ bytes_are g (tight_low s (sym tested ∙ not-false t passed)) holds)
 
-          read_canonical : (c : Content RecordSpans) (g : grammar c) → ContentBytes (grammar_of mode) true g.body (shown_batch s (accepts c)).content → Canonical mode s
-          read_canonical c g holds =
-              strict_canonical (shown_batch s (accepts c)) (strictly mode s _ bytes_are g (tight_low s (sym tested ∙ not-false t passed)) holds)
+        -- ---- a marker
 
-          -- ---- a marker
+        pub canonical_marker : x.is_control ≡ true → (r : Bool) → StandsPromise mode s x.next.at r → CanonicalPromise mode s r
+        canonical_marker h r (told, tells) = record { lent = bytes_are; says = (λ t. stands (told t), λ c. tells (strict c)) }
+          where
+            stands : StandsAlone mode s x.next.at → Canonical mode s
+            stands (m, y) =
+                let i = (forms_lawful mode).reads.complete true s x.next.at y.bytes m y.stands y.encodes in
+                let g = accepted_all (accepts (control m)) (read_judged true h (control m) (length s) (ap (map_step control) i)) all in
+                let body : y.bytes ≡ g.body
+                = sym (all_left y.stands) ∙ ap (λ (p : ℕ). drop p s) ends.next ∙ all_left (parts_stand (whole s) g).body in
+                read_canonical (control m) g (subst (λ (bs : List ℕ). grammar_of mode true bs m) body y.encodes)
 
-          pub canonical_marker : is_control ≡ true → (r : Bool) → StandsPromise mode s next.at r → CanonicalPromise mode s r
-          canonical_marker h r (told, tells) = record { lent = bytes_are; says = (λ t. stands (told t), λ c. tells (strict c)) }
-            where
-              stands : StandsAlone mode s next.at → Canonical mode s
-              stands (m, x) =
-                  let i = (forms_lawful mode).reads.complete true s next.at x.bytes m x.stands x.encodes in
-                  let g = accepted_all (accepts (control m)) (read_judged true h (control m) (length s) (ap (map_step control) i)) all in
-                  let body : x.bytes ≡ g.body
-                  = sym (all_left x.stands) ∙ ap (λ (p : ℕ). drop p s) ends.next ∙ all_left (parts_stand (whole s) g).body in
-                  read_canonical (control m) g (subst (λ (bs : List ℕ). grammar_of mode true bs m) body x.encodes)
+            strict : Canonical mode s → StandsAlone mode s x.next.at
+            strict c =
+                let (b', g) = (canonical_is_strict mode s bytes_are).0 c in
+                let (k, p, i, is) = judged_read true h (placed_batch 0 0 g) (complete mode true s 0 0 (length s) s b' (whole s) g).0 in
+                let (m, j, w) = map_ok control (way_of mode s x.next.at) i in
+                let place : 0 + 61 ≡ x.next.at = sym ends.next in
+                subst (StandsAlone mode s) place
+                (alone_strictly mode b'.content (parts_stand (whole s) g).body g.holds m (ap (λ (x : Accepted). x.content) is ∙ sym w))
 
-              strict : Canonical mode s → StandsAlone mode s next.at
-              strict c =
-                  let (b', g) = (canonical_is_strict mode s bytes_are).0 c in
-                  let (k, p, i, is) = judged_read true h (placed_batch 0 0 g) (complete mode true s 0 0 (length s) s b' (whole s) g).0 in
-                  let (m, j, w) = map_ok control (way_of mode s next.at) i in
-                  let place : 0 + 61 ≡ next.at = sym ends.next in
-                  subst (StandsAlone mode s) place
-                  (alone_strictly mode b'.content (parts_stand (whole s) g).body g.holds m (ap (λ (x : Accepted). x.content) is ∙ sym w))
+        -- ---- records
 
-          -- ---- records
+        pub canonical_rows : x.is_control ≡ false → (r : Bool) → CanonicalRecordsPromise s x.next.at x.count r → CanonicalPromise mode s r
+        canonical_rows h r (told, tells) = record { lent = bytes_are; says = (λ t. stands (told t), λ c. tells (strict c)) }
+          where
+            stands : StandStrictly s x.next.at x.count → Canonical mode s
+            stands (rs, y, many) =
+                let (i, shows) = records_complete true s x.next.at y.bytes rs y.stands y.encodes in
+                let spans = placed_records x.next.at y.encodes in
+                let reads = ap (map_step records) (ap (λ (k : ℕ). records_at s k x.next.at) (sym many) ∙ i) in
+                let g = accepted_all (accepts (records spans)) (read_judged false h (records spans) (length s) reads) all in
+                let body : y.bytes ≡ g.body
+                = sym (all_left y.stands) ∙ ap (λ (p : ℕ). drop p s) ends.next ∙ all_left (parts_stand (whole s) g).body in
+                read_canonical (records spans) g (subst₂ (RecordsBytes true) body (sym shows) y.encodes)
 
-          pub canonical_rows : is_control ≡ false → (r : Bool) → CanonicalRecordsPromise s next.at n r → CanonicalPromise mode s r
-          canonical_rows h r (told, tells) = record { lent = bytes_are; says = (λ t. stands (told t), λ c. tells (strict c)) }
-            where
-              stands : StandStrictly s next.at n → Canonical mode s
-              stands (rs, x, many) =
-                  let (i, shows) = records_complete true s next.at x.bytes rs x.stands x.encodes in
-                  let spans = placed_records next.at x.encodes in
-                  let reads = ap (map_step records) (ap (λ (k : ℕ). records_at s k next.at) (sym many) ∙ i) in
-                  let g = accepted_all (accepts (records spans)) (read_judged false h (records spans) (length s) reads) all in
-                  let body : x.bytes ≡ g.body
-                  = sym (all_left x.stands) ∙ ap (λ (p : ℕ). drop p s) ends.next ∙ all_left (parts_stand (whole s) g).body in
-                  read_canonical (records spans) g (subst₂ (RecordsBytes true) body (sym shows) x.encodes)
-
-              strict : Canonical mode s → StandStrictly s next.at n
-              strict c =
-                  let (b', g) = (canonical_is_strict mode s bytes_are).0 c in
-                  let (k, p, i, is) = judged_read false h (placed_batch 0 0 g) (complete mode true s 0 0 (length s) s b' (whole s) g).0 in
-                  let (spans, j, w) = map_ok records (records_at s n next.at) i in
-                  let (_, _, many, _) = records_sound s n next.at spans p bytes_are j in
-                  let place : 0 + 61 ≡ next.at = sym ends.next in
-                  let y = (parts_stand (whole s) g).body in
-                  subst (λ (q : ℕ). StandStrictly s q n) place
-                  (stands_strictly mode b'.content y g.holds spans (ap (λ (x : Accepted). x.content) is ∙ sym w) many)
+            strict : Canonical mode s → StandStrictly s x.next.at x.count
+            strict c =
+                let (b', g) = (canonical_is_strict mode s bytes_are).0 c in
+                let (k, p, i, is) = judged_read false h (placed_batch 0 0 g) (complete mode true s 0 0 (length s) s b' (whole s) g).0 in
+                let (spans, j, w) = map_ok records (records_at s x.count x.next.at) i in
+                let (_, _, many, _) = records_sound s x.count x.next.at spans p bytes_are j in
+                let place : 0 + 61 ≡ x.next.at = sym ends.next in
+                let y = (parts_stand (whole s) g).body in
+                subst (λ (q : ℕ). StandStrictly s q x.count) place
+                (stands_strictly mode b'.content y g.holds spans (ap (λ (x : Accepted). x.content) is ∙ sym w) many)

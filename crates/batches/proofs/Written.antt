@@ -19,7 +19,7 @@ use Rattle.records.specs.Rows.{Tables}
 use Rattle.asking.specs.declared.WriteFault.{WriteFault}
 use Rattle.asking.specs.Asked.{RowPlace, records_asked}
 use Rattle.asking.proofs.Refusals.{RowFault, records_refused}
-use Rattle.writing.specs.declared.Written.{Written as WrittenAnswer}
+use Rattle.std.specs.Prelude.{Result, Ok, Err}
 use Rattle.writing.specs.Answers.{Answer, writes, refuses, view_written, Given, given, refused, measured, over}
 use Rattle.writing.specs.Promises.{WriteOutcome, WriteBy}
 use Rattle.writing.proofs.Single.{single_written}
@@ -103,20 +103,20 @@ write_untouched q out o e h = untouched _ out o e.by h
 
 -- ---- writing is measuring
 
-abbrev Measured : List ℕ → WrittenAnswer → WrittenAnswer → Type 0
+abbrev Measured : List ℕ → Result ℕ WriteFault → Result ℕ WriteFault → Type 0
 Measured out w r =
-    (w ≡ r) ⊎ ((w ≡ WrittenAnswer.Refused WriteFault.ShortOutput) × ((n : ℕ) × (r ≡ WrittenAnswer.Bytes n) × (length out < n)))
+    (w ≡ r) ⊎ ((w ≡ Err WriteFault.ShortOutput) × ((n : ℕ) × (r ≡ Ok n) × (length out < n)))
 
-measures_by : (room : Bool) (bs out : List ℕ) (w r : WrittenAnswer) → leb (0 + length bs) (length out) ≡ room
+measures_by : (room : Bool) (bs out : List ℕ) (w r : Result ℕ WriteFault) → leb (0 + length bs) (length out) ≡ room
     → view_written w ≡ pick room (writes (length bs)) (refuses 24) → view_written r ≡ writes (length bs) → Measured out w r
 measures_by true bs out w r h e f = inl (single_written _ w r e f)
 measures_by false bs out w r h e f =
     inr (
-      single_written _ w (WrittenAnswer.Refused WriteFault.ShortOutput) e refl,
-      (length bs, single_written _ r (WrittenAnswer.Bytes (length bs)) f refl, omega (arith, leb-false (0 + length bs) (length out) h)),
+      single_written _ w (Err WriteFault.ShortOutput) e refl,
+      (length bs, single_written _ r (Ok (length bs)) f refl, omega (arith, leb-false (0 + length bs) (length out) h)),
     )
 
-measures : (g : Given) (out : List ℕ) (o : WriteOutcome) (r : WrittenAnswer) → WriteBy g 0 out o → view_written r ≡ measured g
+measures : (g : Given) (out : List ℕ) (o : WriteOutcome) (r : Result ℕ WriteFault) → WriteBy g 0 out o → view_written r ≡ measured g
     → Measured out o.result r
 measures (given bs) out o r e f = measures_by (leb (0 + length bs) (length out)) bs out o.result r refl e.answer f
 measures (refused n) out o r e f = inl (single_written _ o.result r e.answer f)

@@ -1,18 +1,19 @@
 -- What each public answer says, case by case: document 01's number, and the values that it names.
-use Rattle.std.specs.Prelude.{ℕ, ◌/◌, ◌≤◌, ◌≡◌, Bool, true, ◌⊎◌, length}
+use Rattle.std.specs.Prelude.{ℕ, ◌/◌, ◌≤◌, ◌≡◌, Bool, true, ◌⊎◌, length, Result, Ok, Err}
 use Rattle.std.proofs.Math.Option.{Option, none, some}
 use Rattle.numbers.specs.Pick.{pick}
 use Rattle.records.specs.Judgement.{RecordSpans}
 use Rattle.records.specs.Rows.{headers_in, Tables, enough_rows, with_rows}
 use Rattle.layout.specs.Batch.{Fields, Marker, Content, control, records}
 use Rattle.layout.specs.Fixed.{view_type}
+use Rattle.opening.specs.declared.OpenError.{OpenError}
 use Rattle.opening.specs.Answers.{batch_number_of}
 use Rattle.opening.specs.Judgement.{Judgement, more, refused, accepted, Accepted}
 use Rattle.markers.specs.Markers.{view_marker}
 use Rattle.batches.specs.declared.RecordBatch.{RecordBatch}
 use Rattle.batches.specs.declared.ControlBatchOrRecords.{ControlBatchOrRecords}
-use Rattle.batches.specs.declared.BatchCheck.{BatchCheck}
-use Rattle.batches.specs.declared.BatchRead.{BatchRead}
+use Rattle.batches.specs.declared.BatchFound.{BatchFound}
+use Rattle.batches.specs.declared.ReadError.{ReadError}
 
 -- ---- the reader's numbers
 
@@ -48,7 +49,7 @@ refuses n = record { number = n; fields = none; kind = none; records = 0; header
 abbrev pub lacks_room : ℕ → ℕ → Answer
 lacks_room n m = record { number = 14; fields = none; kind = none; records = n; headers = m; bytes = 0 }
 
--- ---- what the enums say
+-- ---- what the types of the code say
 
 abbrev pub view_fields : RecordBatch → Fields
 view_fields b =
@@ -74,16 +75,19 @@ abbrev pub view_count : ControlBatchOrRecords → ℕ
 view_count (ControlBatchOrRecords.ControlBatch m) = 0
 view_count (ControlBatchOrRecords.Records n) = n
 
-abbrev pub view_check : BatchCheck → Answer
-view_check (BatchCheck.Accepted b k m bytes) = accepts (view_fields b) (view_kind k) (view_count k) m bytes
-view_check (BatchCheck.MoreBytes bytes) = wants bytes
-view_check (BatchCheck.Refused f) = refuses (batch_number_of f)
+abbrev pub view_found : BatchFound → Answer
+view_found x = accepts (view_fields x.batch) (view_kind x.kind) (view_count x.kind) x.headers x.consumed
 
-abbrev pub view_read : BatchRead → Answer
-view_read (BatchRead.Accepted b k m bytes) = accepts (view_fields b) (view_kind k) (view_count k) m bytes
-view_read (BatchRead.MoreBytes bytes) = wants bytes
-view_read (BatchRead.Refused f) = refuses (batch_number_of f)
-view_read (BatchRead.NoRoom n m) = lacks_room n m
+abbrev pub view_check : Result BatchFound OpenError → Answer
+view_check (Ok x) = view_found x
+view_check (Err (OpenError.MoreBytes bytes)) = wants bytes
+view_check (Err (OpenError.Refused f)) = refuses (batch_number_of f)
+
+abbrev pub view_read : Result BatchFound ReadError → Answer
+view_read (Ok x) = view_found x
+view_read (Err (ReadError.MoreBytes bytes)) = wants bytes
+view_read (Err (ReadError.Refused f)) = refuses (batch_number_of f)
+view_read (Err (ReadError.NoRoom n m)) = lacks_room n m
 
 -- ---- what a judgement has answered
 

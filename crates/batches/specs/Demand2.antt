@@ -1,7 +1,7 @@
 -- Demand 2 of the public reader: what is read is proved against a definition written from Kafka's published format. What
 -- `RecordBatch::read` and `RecordBatch::check` answer is said here by the format alone (crates/layout/specs/Format.antt).
 -- What proves each stands in proofs/ under the statement's name in small letters: `read_sound : ReadSound`.
-use Rattle.std.specs.Prelude.{ℕ, ◌/◌, ◌≤◌, ◌≡◌, Bool, false, List, ◌++◌, length}
+use Rattle.std.specs.Prelude.{Result, ℕ, ◌/◌, ◌≤◌, ◌≡◌, Bool, false, List, ◌++◌, length}
 use Rattle.std.proofs.Math.Option.{some}
 use Rattle.numbers.specs.Exactly.{Exactly}
 use Rattle.primitives.specs.Stands.{Encoding}
@@ -11,7 +11,8 @@ use Rattle.records.specs.Rows.{Tables}
 use Rattle.layout.specs.declared.ControlMode.{ControlMode}
 use Rattle.layout.specs.Batch.{Fields, Content, Batch}
 use Rattle.layout.specs.Format.{BatchBytes, Grammar, BatchBytesWith}
-use Rattle.batches.specs.declared.BatchCheck.{BatchCheck}
+use Rattle.batches.specs.declared.BatchFound.{BatchFound}
+use Rattle.opening.specs.declared.OpenError.{OpenError}
 use Rattle.batches.specs.Placed.{placed_batch, shown_content}
 use Rattle.batches.specs.Answers.{Standing, Answer, accepts, refuses, view_check, view_read, kind_of, records_in, headers_of}
 use Rattle.batches.specs.Request.{InWidth}
@@ -71,23 +72,23 @@ ReadInWidth =
 -- ---- the check
 
 -- the same, without tables
-pub record CheckAs (mode : ControlMode) (s : List ℕ) (r : BatchCheck) : Type 0 where
+pub record CheckAs (mode : ControlMode) (s : List ℕ) (r : Result BatchFound OpenError) : Type 0 where
   pub batch : Batch Record
   pub stands : Encoding (BatchBytes mode false) s 0 (view_check r).bytes batch
   pub names : Names s batch (spans_of stands.encodes) (view_check r).bytes (view_check r)
 
 abbrev pub CheckSound : Type 0
-CheckSound = (mode : ControlMode) (s : List ℕ) (r : BatchCheck) → CheckPromise mode s r → (view_check r).number ≡ 0 → CheckAs mode s r
+CheckSound = (mode : ControlMode) (s : List ℕ) (r : Result BatchFound OpenError) → CheckPromise mode s r → (view_check r).number ≡ 0 → CheckAs mode s r
 
 abbrev pub CheckComplete : Type 0
 CheckComplete =
-    (mode : ControlMode) (strict : Bool) (bs after : List ℕ) (b : Batch Record) (g : BatchBytes mode strict bs b) (r : BatchCheck)
+    (mode : ControlMode) (strict : Bool) (bs after : List ℕ) (b : Batch Record) (g : BatchBytes mode strict bs b) (r : Result BatchFound OpenError)
     → CheckPromise mode (bs ++ after) r
     → Names (bs ++ after) b (spans_of g) (length bs) (view_check r)
 
 abbrev pub CheckFaults : Type 0
 CheckFaults =
-    (mode : ControlMode) (s : List ℕ) (r : BatchCheck) (n : ℕ) → CheckPromise mode s r
+    (mode : ControlMode) (s : List ℕ) (r : Result BatchFound OpenError) (n : ℕ) → CheckPromise mode s r
     → Exactly (Standing n × (view_check r ≡ refuses n)) (FirstFault mode s n)
 
 -- ---- what demand 2 says of an outcome, by the format alone

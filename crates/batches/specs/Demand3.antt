@@ -13,21 +13,21 @@
 -- reader's, and for every way of reading control batches, every place of the batch's first byte and every row of its
 -- first header. (Where a number names the answer, the way is one that refuses by none but `Standing`: `Within`,
 -- Statements.antt.) The last sentence is of the public reader and the public writer.
-use Rattle.std.specs.Prelude.{ℕ, ◌+◌, ◌/◌, ◌<◌, ◌≤◌, ◌≡◌, false, ◌⊎◌, List, ◌++◌, pos, length, take}
+use Rattle.std.specs.Prelude.{Result, Ok, Err, ℕ, ◌+◌, ◌/◌, ◌<◌, ◌≤◌, ◌≡◌, false, ◌⊎◌, List, ◌++◌, pos, length, take}
 use Rattle.numbers.specs.Exactly.{Exactly}
 use Rattle.primitives.specs.Stands.{Encoding}
 use Rattle.records.specs.Format.{Record}
 use Rattle.records.specs.Judgement.{RecordSpans}
 use Rattle.records.specs.Rows.{Tables}
-use Rattle.writing.specs.declared.Written.{Written}
 use Rattle.writing.specs.Promises.{WriteOutcome}
 use Rattle.layout.specs.declared.ControlMode.{ControlMode}
 use Rattle.layout.specs.Table.{table}
 use Rattle.layout.specs.Batch.{Content, Batch}
 use Rattle.layout.specs.Format.{BatchBytes}
 use Rattle.opening.specs.Judgement.{more, refused, accepted, Accepted, Judgement, number_in, Control, judge_with, judge}
-use Rattle.batches.specs.declared.BatchCheck.{BatchCheck}
-use Rattle.batches.specs.declared.BatchRead.{BatchRead}
+use Rattle.batches.specs.declared.BatchFound.{BatchFound}
+use Rattle.opening.specs.declared.OpenError.{OpenError}
+use Rattle.batches.specs.declared.ReadError.{ReadError}
 use Rattle.batches.specs.Placed.{shown_content}
 use Rattle.batches.specs.Answers.{view_fields, view_check, view_read, records_in, headers_of, accepted_as, answer_with_room, rooms_of, has_room, stored}
 use Rattle.batches.specs.Promises.{CheckPromise, ReadOutcome, ReadBy, ReadPromise}
@@ -104,7 +104,7 @@ JudgeStandsWith = (way : Control) (at first : ℕ) → JudgeStandsBy (judging_wi
 -- And of the check, which is lent no tables.
 abbrev pub CheckStands : Type 0
 CheckStands =
-    (mode : ControlMode) (s after : List ℕ) (r r' : BatchCheck) → CheckPromise mode s r → CheckPromise mode (s ++ after) r'
+    (mode : ControlMode) (s after : List ℕ) (r r' : Result BatchFound OpenError) → CheckPromise mode s r → CheckPromise mode (s ++ after) r'
     → ((view_check r).number ≡ 1 → ⊥) → r' ≡ r
 
 -- "No room" stands too where the tables have as many rows.
@@ -145,19 +145,19 @@ pub data Lacks (s : List ℕ) (at : ℕ) : ℕ → Type 0 where
 abbrev pub MoreBytes : Type 0
 MoreBytes =
     (mode : ControlMode) (s : List ℕ) (t : Tables) (o : ReadOutcome) (n : ℕ) → ReadPromise mode s t o
-    → Exactly (o.result ≡ BatchRead.MoreBytes n) (Lacks s 0 n)
+    → Exactly (o.result ≡ Err (ReadError.MoreBytes n)) (Lacks s 0 n)
 
 abbrev pub MoreBytesWith : Type 0
 MoreBytesWith =
     (way : Control) → Within way → (at first : ℕ) (s : List ℕ) (t : Tables) (o : ReadOutcome) (n : ℕ) → reading_with way at first s t o
-    → Exactly (o.result ≡ BatchRead.MoreBytes n) (Lacks s at n)
+    → Exactly (o.result ≡ Err (ReadError.MoreBytes n)) (Lacks s at n)
 
 -- ---- ""no room" only where demand 2 accepts and a table is short, naming the rows needed."
 
 abbrev pub NoRoom : Type 0
 NoRoom =
     (mode : ControlMode) (s : List ℕ) (t : Tables) (o : ReadOutcome) (n m : ℕ) → ReadPromise mode s t o
-    → Exactly (o.result ≡ BatchRead.NoRoom n m)
+    → Exactly (o.result ≡ Err (ReadError.NoRoom n m))
     ((b : Accepted) × (judge mode s ≡ accepted b) × (records_in b.content ≡ n) × (headers_of b.content ≡ m)
     × ((length t.records / 8 < n) ⊎ (length t.headers / 4 < m)))
 
@@ -165,14 +165,14 @@ NoRoom =
 abbrev pub NoRoomByFormat : Type 0
 NoRoomByFormat =
     (mode : ControlMode) (s : List ℕ) (t : Tables) (o : ReadOutcome) (n m : ℕ) → ReadPromise mode s t o
-    → Exactly (o.result ≡ BatchRead.NoRoom n m)
+    → Exactly (o.result ≡ Err (ReadError.NoRoom n m))
     ((b : Batch Record) × (q : ℕ) × (e : Encoding (BatchBytes mode false) s 0 q b) × (records_in (spans_of e.encodes) ≡ n)
     × (headers_of (spans_of e.encodes) ≡ m) × ((length t.records / 8 < n) ⊎ (length t.headers / 4 < m)))
 
 abbrev NoRoomBy : Judging → Type 0
 NoRoomBy judging =
     (s : List ℕ) (t : Tables) (o : ReadOutcome) (n m : ℕ) → ReadBy (judging s) t o
-    → Exactly (o.result ≡ BatchRead.NoRoom n m)
+    → Exactly (o.result ≡ Err (ReadError.NoRoom n m))
     ((b : Accepted) × (judging s ≡ accepted b) × (records_in b.content ≡ n) × (headers_of b.content ≡ m)
     × (has_room b.content b.first_header (rooms_of t) ≡ false))
 
@@ -198,5 +198,5 @@ pub record SameBatch (q : Request) (c : Content RecordSpans) (n : ℕ) (s : List
 abbrev pub ReadsBack : Type 0
 ReadsBack =
     (q : Request) (c : Content RecordSpans) (out : List ℕ) (o : WriteOutcome) (n : ℕ) (after : List ℕ) (t : Tables) (o' : ReadOutcome)
-    → Writes q out o → o.result ≡ Written.Bytes n → Asks q c → ReadPromise q.mode (take n o.output ++ after) t o' → Enough c t
+    → Writes q out o → o.result ≡ Ok n → Asks q c → ReadPromise q.mode (take n o.output ++ after) t o' → Enough c t
     → SameBatch q c n (take n o.output ++ after) t o'

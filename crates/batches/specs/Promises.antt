@@ -1,27 +1,27 @@
 -- What each public function promises of its result and of what it is lent to change, the reader's tables and the
 -- writer's output, for every input. All else is lent to be read: no function here can change it. That lent bytes are
 -- bytes, and numbers handed in of their width, is promised too, so that no law about a function has to ask it.
-use Rattle.std.specs.Prelude.{ℕ, ◌≡◌, Bool, true, List, ℤ, length}
+use Rattle.std.specs.Prelude.{ℕ, ◌≡◌, Bool, true, List, ℤ, length, Option, Result}
 use Rattle.std.specs.Borrow.{Bor}
 use Rattle.numbers.specs.Bytes.{Bytes}
 use Rattle.numbers.specs.Exactly.{Exactly}
 use Rattle.records.specs.Rows.{Tables}
 use Rattle.reading.specs.Promises.{ReadOutcome as RecordsOutcome, ReadRecordsPromise}
-use Rattle.writing.specs.declared.Written.{Written}
+use Rattle.asking.specs.declared.WriteFault.{WriteFault}
 use Rattle.writing.specs.Answers.{given, view_written, measured}
 use Rattle.writing.specs.Promises.{WriteOutcome, WriteBy}
 use Rattle.layout.specs.declared.ControlMode.{ControlMode}
-use Rattle.layout.specs.declared.RecordTime.{RecordTime}
 use Rattle.layout.specs.Time.{record_time, view_time}
 use Rattle.layout.specs.Promises as Layout
+use Rattle.opening.specs.declared.OpenError.{OpenError}
 use Rattle.opening.specs.Judgement.{accepted, Accepted, Judgement, judge}
 use Rattle.batches.specs.declared.body.BodyReader.{BodyReader}
 use Rattle.batches.specs.declared.RecordBatch.{RecordBatch}
 use Rattle.batches.specs.declared.ControlBatchOrRecords.{ControlBatchOrRecords}
-use Rattle.batches.specs.declared.BatchCheck.{BatchCheck}
-use Rattle.batches.specs.declared.BatchRead.{BatchRead}
+use Rattle.batches.specs.declared.BatchFound.{BatchFound}
+use Rattle.batches.specs.declared.ReadError.{ReadError}
 use Rattle.batches.specs.Writer.{view_wanted, batch_given, own_tables, wanted_of}
-use Rattle.batches.specs.Answers.{view_fields, view_check, view_read, answer_with_room, rooms_of, answer_of, tables_of}
+use Rattle.batches.specs.Answers.{view_fields, view_count, view_check, view_read, answer_with_room, rooms_of, answer_of, tables_of}
 use Rattle.batches.specs.Request.{Sensible}
 
 -- RecordBatch::total_size, of any batchLength
@@ -29,13 +29,13 @@ abbrev pub TotalSizePromise : ℤ → ℤ → Type 0
 TotalSizePromise batch_length r = Layout.TotalSizePromise batch_length r
 
 -- RecordBatch::check, on bytes s
-pub record CheckPromise (mode : ControlMode) (s : List ℕ) (r : BatchCheck) : Type 0 where
+pub record CheckPromise (mode : ControlMode) (s : List ℕ) (r : Result BatchFound OpenError) : Type 0 where
   pub lent : Bytes s
   pub answer : view_check r ≡ answer_with_room (judge mode s)
 
 -- the result of RecordBatch::read, with both tables at exit
 pub record ReadOutcome : Type 0 where
-  pub result : BatchRead
+  pub result : Result BatchFound ReadError
   pub tables : Tables
 
 -- what reading gives by a judgement, on tables t: the answer, and the tables at exit
@@ -66,12 +66,16 @@ pub record ReadHeldPromise (r : BodyReader) (count first : ℕ) (t : Tables) (o 
   pub read : ReadBodyPromise r.body.now r.at count first t o.read
   pub body : o.body ≡ r.body
 
+-- ControlBatchOrRecords::record_count
+abbrev pub RecordCountPromise : ControlBatchOrRecords → ℕ → Type 0
+RecordCountPromise kind n = n ≡ view_count kind
+
 -- RecordBatch::record_time
-abbrev pub RecordTimePromise : RecordBatch → ℤ → RecordTime → Type 0
+abbrev pub RecordTimePromise : RecordBatch → ℤ → Option ℤ → Type 0
 RecordTimePromise b delta r = view_time r ≡ record_time (view_fields b) delta
 
 -- RecordBatch::measure, of fields, a codec number, a kind, tables t and a source s
-abbrev pub MeasurePromise : ControlMode → RecordBatch → ℕ → ControlBatchOrRecords → Tables → List ℕ → Written → Type 0
+abbrev pub MeasurePromise : ControlMode → RecordBatch → ℕ → ControlBatchOrRecords → Tables → List ℕ → Result ℕ WriteFault → Type 0
 MeasurePromise mode b codec kind t s r = view_written r ≡ measured (batch_given mode (view_fields b) codec (view_wanted kind) t s)
 
 -- RecordBatch::write, the same into an output

@@ -1,30 +1,38 @@
 -- Words of private contracts: none of them stands in a promise. What the steps of reading, of the canonical check and of
 -- writing give.
-use Rattle.std.specs.Prelude.{ℕ, ◌≡◌, Bool, false, List, eqb, ltb, get_or}
+use Rattle.std.specs.Prelude.{ℕ, ◌≡◌, Bool, false, List, eqb, ltb, get_or, Result, Ok, Err}
 use Rattle.numbers.specs.Pick.{pick}
-use Rattle.reading.specs.declared.RecordsRead.{RecordsRead}
+use Rattle.reading.specs.declared.RecordsFound.{RecordsFound}
+use Rattle.reading.specs.declared.RecordsError.{RecordsError}
 use Rattle.layout.specs.declared.BatchFields.{BatchFields}
 use Rattle.layout.specs.Fixed.{view_batch_fields}
 use Rattle.opening.specs.declared.BatchFault.{BatchFault}
+use Rattle.opening.specs.declared.OpenError.{OpenError}
 use Rattle.batches.specs.declared.RecordBatch.{RecordBatch}
 use Rattle.batches.specs.declared.ControlBatchOrRecords.{ControlBatchOrRecords}
-use Rattle.batches.specs.declared.BatchCheck.{BatchCheck}
-use Rattle.batches.specs.declared.BatchRead.{BatchRead}
+use Rattle.batches.specs.declared.BatchFound.{BatchFound}
+use Rattle.batches.specs.declared.ReadError.{ReadError}
 use Rattle.batches.specs.Answers.{view_fields}
 use Rattle.batches.specs.Request.{InWidth}
 
--- ---- the records
+-- ---- what is an error of a part is one of the whole
 
--- a table that is short is no fault of what is checked
-abbrev pub check_of_records_read : RecordBatch → ℕ → RecordsRead → BatchCheck
-check_of_records_read b total (RecordsRead.Accepted n m q) = BatchCheck.Accepted b (ControlBatchOrRecords.Records n) m total
-check_of_records_read b total (RecordsRead.Refused f) = BatchCheck.Refused (BatchFault.Body f)
-check_of_records_read b total (RecordsRead.NoRoom n m) = BatchCheck.Accepted b (ControlBatchOrRecords.Records n) m total
+abbrev pub error_of_opening : OpenError → ReadError
+error_of_opening (OpenError.MoreBytes n) = ReadError.MoreBytes n
+error_of_opening (OpenError.Refused f) = ReadError.Refused f
 
-abbrev pub of_records_read : RecordBatch → ℕ → RecordsRead → BatchRead
-of_records_read b total (RecordsRead.Accepted n m q) = BatchRead.Accepted b (ControlBatchOrRecords.Records n) m total
-of_records_read b total (RecordsRead.Refused f) = BatchRead.Refused (BatchFault.Body f)
-of_records_read b total (RecordsRead.NoRoom n m) = BatchRead.NoRoom n m
+abbrev pub found_records : RecordBatch → ℕ → ℕ → ℕ → BatchFound
+found_records b total n m = record { batch = b; kind = ControlBatchOrRecords.Records n; headers = m; consumed = total }
+
+abbrev pub error_of_records : RecordsError → ReadError
+error_of_records (RecordsError.Refused f) = ReadError.Refused (BatchFault.Body f)
+error_of_records (RecordsError.NoRoom n m) = ReadError.NoRoom n m
+
+-- what is read into tables of no rows: a table that is short is no fault of what is checked
+abbrev pub check_of_records_read : RecordBatch → ℕ → Result RecordsFound RecordsError → Result BatchFound OpenError
+check_of_records_read b total (Ok x) = Ok (found_records b total x.records x.headers)
+check_of_records_read b total (Err (RecordsError.Refused f)) = Err (OpenError.Refused (BatchFault.Body f))
+check_of_records_read b total (Err (RecordsError.NoRoom n m)) = Ok (found_records b total n m)
 
 -- ---- the canonical check
 

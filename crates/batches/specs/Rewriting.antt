@@ -1,7 +1,7 @@
 -- The laws of the writer and of the canonical check, each in words and then as a statement. What proves each stands in
 -- proofs/ under the statement's name in small letters: `written : Written`. That what is written reads back stands with
 -- demand 3's statements, in Demand3.antt.
-use Rattle.std.specs.Prelude.{ℕ, ◌+◌, ◌<◌, ◌≤◌, ◌≡◌, Bool, true, ◌⊎◌, List, ◌++◌, length, take, drop}
+use Rattle.std.specs.Prelude.{Result, Ok, Err, ℕ, ◌+◌, ◌<◌, ◌≤◌, ◌≡◌, Bool, true, ◌⊎◌, List, ◌++◌, length, take, drop}
 use Rattle.numbers.specs.Exactly.{Exactly}
 use Rattle.primitives.specs.Step.{ok}
 use Rattle.records.specs.Format.{Record}
@@ -10,7 +10,7 @@ use Rattle.records.specs.Rows.{Tables}
 use Rattle.asking.specs.declared.WriteFault.{WriteFault}
 use Rattle.asking.specs.Asked.{RowPlace}
 use Rattle.asking.specs.RowFaults.{AskedWrong}
-use Rattle.writing.specs.declared.Written.{Written as WrittenAnswer}
+use Rattle.asking.specs.declared.WriteFault.{WriteFault}
 use Rattle.writing.specs.Answers.{Answer, view_written}
 use Rattle.writing.specs.Promises.{WriteOutcome}
 use Rattle.layout.specs.declared.ControlMode.{ControlMode}
@@ -19,7 +19,6 @@ use Rattle.layout.specs.Batch.{Fields, Marker, Content, Batch}
 use Rattle.layout.specs.Format.{BatchBytes}
 use Rattle.batches.specs.declared.RecordBatch.{RecordBatch}
 use Rattle.batches.specs.declared.ControlBatchOrRecords.{ControlBatchOrRecords}
-use Rattle.batches.specs.declared.BatchRead.{BatchRead}
 use Rattle.batches.specs.Placed.{shown_content}
 use Rattle.batches.specs.Answers.{view_fields}
 use Rattle.batches.specs.Request.{Request}
@@ -28,7 +27,7 @@ use Rattle.batches.specs.Promises.{ReadOutcome, ReadPromise, MeasurePromise, Wri
 
 -- ---- what is asked of the writer
 
-abbrev pub Measures : Request → WrittenAnswer → Type 0
+abbrev pub Measures : Request → Result ℕ WriteFault → Type 0
 Measures q r = MeasurePromise q.mode q.batch q.codec q.kind q.tables q.source r
 
 abbrev pub Writes : Request → List ℕ → WriteOutcome → Type 0
@@ -99,7 +98,7 @@ pub record WrittenAs (q : Request) (out : List ℕ) (o : WriteOutcome) (n : ℕ)
 
 abbrev pub Written : Type 0
 Written =
-    (q : Request) (out : List ℕ) (o : WriteOutcome) (n : ℕ) → Writes q out o → o.result ≡ WrittenAnswer.Bytes n → WrittenAs q out o n
+    (q : Request) (out : List ℕ) (o : WriteOutcome) (n : ℕ) → Writes q out o → o.result ≡ Ok n → WrittenAs q out o n
 
 -- Document 01: a refusal changes none of the output, and returns length 0.
 abbrev pub WriteUntouched : Type 0
@@ -110,9 +109,9 @@ WriteUntouched =
 -- Writing is measuring and then 24: the answer is the measure's, unless that is a length that the output does not have.
 abbrev pub WriteMeasures : Type 0
 WriteMeasures =
-    (q : Request) (out : List ℕ) (o : WriteOutcome) (r : WrittenAnswer) → Writes q out o → Measures q r
+    (q : Request) (out : List ℕ) (o : WriteOutcome) (r : Result ℕ WriteFault) → Writes q out o → Measures q r
     → (o.result ≡ r)
-    ⊎ ((o.result ≡ WrittenAnswer.Refused WriteFault.ShortOutput) × ((n : ℕ) × (r ≡ WrittenAnswer.Bytes n) × (length out < n)))
+    ⊎ ((o.result ≡ Err WriteFault.ShortOutput) × ((n : ℕ) × (r ≡ Ok n) × (length out < n)))
 
 -- Document 01: a marker ignores both tables. So it does the source.
 abbrev pub MarkerAlone : Type 0
@@ -127,9 +126,9 @@ MarkerAlone =
 abbrev pub Rewritable : Type 0
 Rewritable =
     (mode : ControlMode) (s : List ℕ) (t : Tables) (o : ReadOutcome) (b : RecordBatch) (kind : ControlBatchOrRecords) (headers consumed : ℕ)
-    (r : WrittenAnswer) → ReadPromise mode s t o → o.result ≡ BatchRead.Accepted b kind headers consumed
+    (r : Result ℕ WriteFault) → ReadPromise mode s t o → o.result ≡ Ok (record { batch = b; kind = kind; headers = headers; consumed = consumed })
     → Measures (record { mode = mode; batch = b; codec = 0; kind = kind; tables = o.tables; source = s }) r
-    → (n : ℕ) × (r ≡ WrittenAnswer.Bytes n) × (n ≤ consumed)
+    → (n : ℕ) × (r ≡ Ok n) × (n ≤ consumed)
 
 -- The canonical check says yes exactly to the strict grammar's bytes.
 abbrev pub CanonicalStrict : Type 0
@@ -140,16 +139,16 @@ CanonicalStrict =
 abbrev pub WrittenCanonical : Type 0
 WrittenCanonical =
     (q : Request) (out : List ℕ) (o : WriteOutcome) (n : ℕ) (r : Bool) → Writes q out o
-    → o.result ≡ WrittenAnswer.Bytes n → CanonicalPromise q.mode (take n o.output) r → r ≡ true
+    → o.result ≡ Ok n → CanonicalPromise q.mode (take n o.output) r → r ≡ true
 
 -- A canonical batch that is read and written again is itself.
 abbrev pub CanonicalAgain : Type 0
 CanonicalAgain =
     (mode : ControlMode) (s : List ℕ) (t : Tables) (o : ReadOutcome) (b : RecordBatch) (kind : ControlBatchOrRecords) (headers consumed : ℕ)
     (out : List ℕ) (w : WriteOutcome) → CanonicalPromise mode s true → ReadPromise mode s t o
-    → o.result ≡ BatchRead.Accepted b kind headers consumed → length s ≤ length out
+    → o.result ≡ Ok (record { batch = b; kind = kind; headers = headers; consumed = consumed }) → length s ≤ length out
     → Writes (record { mode = mode; batch = b; codec = 0; kind = kind; tables = o.tables; source = s }) out w
-    → (w.result ≡ WrittenAnswer.Bytes (length s)) × (w.output ≡ s ++ drop (length s) out)
+    → (w.result ≡ Ok (length s)) × (w.output ≡ s ++ drop (length s) out)
 
 -- ---- one batch, one writing
 
@@ -158,7 +157,7 @@ abbrev pub WrittenApart : Type 0
 WrittenApart =
     (q q' : Request) (out out' : List ℕ) (o o' : WriteOutcome) (n n' : ℕ) (c c' : Content RecordSpans) → q.mode ≡ q'.mode
     → Writes q out o → Writes q' out' o'
-    → o.result ≡ WrittenAnswer.Bytes n → o'.result ≡ WrittenAnswer.Bytes n' → Asks q c → Asks q' c'
+    → o.result ≡ Ok n → o'.result ≡ Ok n' → Asks q c → Asks q' c'
     → take n o.output ≡ take n' o'.output → batch_asked q c ≡ batch_asked q' c'
 
 -- Of all encodings of a batch the writer's is the shortest, and it is the only one of the strict grammar.

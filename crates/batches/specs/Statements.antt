@@ -1,6 +1,6 @@
 -- The laws of batches, each in words and then as a statement. What proves each stands in proofs/ under the statement's
 -- name in small letters: `sound : Sound`. The statements of demand 3 are in Demand3.antt.
-use Rattle.std.specs.Prelude.{ℕ, suc, ◌+◌, ◌<◌, ◌≤◌, ◌≡◌, Bool, true, false, ◌⊎◌, List, [], ◌++◌, map, ℤ, pos, negsuc, length, take, drop}
+use Rattle.std.specs.Prelude.{Result, ℕ, suc, ◌+◌, ◌<◌, ◌≤◌, ◌≡◌, Bool, true, false, ◌⊎◌, List, [], ◌++◌, map, ℤ, pos, negsuc, length, take, drop}
 use Rattle.numbers.specs.Bytes.{Bytes}
 use Rattle.numbers.specs.Exactly.{Exactly}
 use Rattle.primitives.specs.Step.{no}
@@ -17,7 +17,8 @@ use Rattle.layout.specs.Format.{Grammar, bare_grammar, grammar_of, ContentBytes,
 use Rattle.opening.specs.Judgement.{more, refused, accepted, Accepted, Judgement, unsigned_in, number_in, attributes_in, Control, judge_with, bare_marker_at, former_way_of, way_of, judge_at, judge}
 use Rattle.opening.specs.Statements.{Placeless}
 use Rattle.markers.specs.Forms.{Reads}
-use Rattle.batches.specs.declared.BatchCheck.{BatchCheck}
+use Rattle.batches.specs.declared.BatchFound.{BatchFound}
+use Rattle.opening.specs.declared.OpenError.{OpenError}
 use Rattle.batches.specs.Placed.{placed_batch, shown_batch}
 use Rattle.batches.specs.Answers.{Standing, view_check, view_read}
 use Rattle.batches.specs.Promises.{CheckPromise, ReadOutcome, ReadPromise}
@@ -202,7 +203,7 @@ Untouched =
 -- The check answers what the reader answers, unless that is 14.
 abbrev pub CheckAgrees : Type 0
 CheckAgrees =
-    (mode : ControlMode) (s : List ℕ) (r : BatchCheck) (t : Tables) (o : ReadOutcome) → CheckPromise mode s r → ReadPromise mode s t o
+    (mode : ControlMode) (s : List ℕ) (r : Result BatchFound OpenError) (t : Tables) (o : ReadOutcome) → CheckPromise mode s r → ReadPromise mode s t o
     → ((view_read o.result).number ≡ 14 → ⊥) → view_check r ≡ view_read o.result
 
 -- ---- sizes

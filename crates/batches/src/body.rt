@@ -4,7 +4,7 @@
 ghost use Rattle.records.specs.Rows.{tables};
 ghost use Rattle.batches.specs.Promises.{BodyReaderPromise, ReadBodyPromise, ReadHeldPromise};
 
-use reading::{RecordsRead, read_records};
+use reading::{RecordsError, RecordsFound, read_records};
 
 // The bytes of a batch, from its first to its last, and the place in them from which is read. They are cut where the
 // batch ends and never at its start, so that a place is a row's start as it stands.
@@ -29,7 +29,7 @@ impl<'a> BodyReader<'a> {
         first_header_row: usize,
         records: &mut [i64],
         headers: &mut [i64],
-    ) -> RecordsRead
+    ) -> Result<RecordsFound, RecordsError>
         ensures { ReadHeldPromise self.entry count first_header_row (tables records.old headers.old) (record { read = record { result = result; tables = tables records.new headers.new }; body = self.exit.body }) }
     {
         read_records(
@@ -51,7 +51,7 @@ pub fn read_body(
     first_header_row: usize,
     records: &mut [i64],
     headers: &mut [i64],
-) -> RecordsRead
+) -> Result<RecordsFound, RecordsError>
     ensures { ReadBodyPromise body.now at count first_header_row (tables records.old headers.old) (record { result = result; tables = tables records.new headers.new }) }
 {
     BodyReader::new(body, at).read_records(count, first_header_row, records, headers)

@@ -17,20 +17,20 @@ ghost use Rattle.opening.specs.Judgement.{way_of, judge_at};
 ghost use Rattle.opening.specs.Opened.{judged_as};
 ghost use Rattle.markers.specs.Markers.{view_marker};
 ghost use Rattle.batches.specs.Answers.{view_fields, view_check, view_read, answer_with_room};
-ghost use Rattle.batches.specs.Reading.{tight, check_of_records_read, of_records_read, Laid};
+ghost use Rattle.batches.specs.Reading.{tight, check_of_records_read, error_of_opening, error_of_records, Laid};
 ghost use Rattle.batches.specs.Writer.{written_batch, most_length, rows_asked, batch_given_by};
-ghost use Rattle.batches.specs.Promises.{TotalSizePromise, CheckPromise, ReadBy, ReadPromise, RecordTimePromise, MeasurePromise, WritePromise, CanonicalPromise};
+ghost use Rattle.batches.specs.Promises.{TotalSizePromise, CheckPromise, ReadBy, ReadPromise, RecordCountPromise, RecordTimePromise, MeasurePromise, WritePromise, CanonicalPromise};
 
 use asking::WriteFault;
 use body::read_body;
 use canonical::canonical_records;
-use layout::{BatchFields, ControlMode, Producer, RecordBatchTimestampType, RecordTime, Times};
-use markers::{ControlBatchRecord, ControlBatchRecordRead};
+use layout::{BatchFields, ControlMode, Producer, RecordBatchTimestampType, Times};
+use markers::ControlBatchRecord;
 use numbers::{Int32, put};
-use opening::{BatchFault, Opened, open_at};
+use opening::{BatchFault, OpenError, open_at};
 use primitives::Cursor;
-use reading::RecordsRead;
-use writing::{Written, measure_records, write_records};
+use reading::{RecordsError, RecordsFound};
+use writing::{measure_records, write_records};
 
 // The bytes of a whole control batch, whose marker is written in 11.
 const MARKED: usize = BatchFields::FIXED + 11;
@@ -57,35 +57,56 @@ pub enum ControlBatchOrRecords {
     Records(usize),
 }
 
-// What a batch is found to be: its fields, its kind, how many headers its records have, and how many bytes it has; or
-// how many bytes are needed, counted from its first; or why it is refused.
-#[derive(Drop)]
-pub enum BatchCheck {
-    Accepted {
-        batch: RecordBatch,
-        kind: ControlBatchOrRecords,
-        headers: usize,
-        consumed: usize,
-    },
-    MoreBytes(usize),
-    Refused(BatchFault),
+impl ControlBatchOrRecords {
+    // A marker counts no records.
+    pub fn record_count(self) -> usize
+        ensures { RecordCountPromise self result }
+    {
+        match self {
+            ControlBatchOrRecords::ControlBatch(_) => 0,
+            ControlBatchOrRecords::Records(n) => n,
+        }
+    }
 }
 
-// The same, or the rows that are needed where a table has fewer.
-#[derive(Drop)]
-pub enum BatchRead {
-    Accepted {
-        batch: RecordBatch,
-        kind: ControlBatchOrRecords,
-        headers: usize,
-        consumed: usize,
-    },
+// What a batch is found to be: its fields, its kind, how many headers its records have, and how many bytes it has.
+#[derive(Clone, Copy)]
+pub struct BatchFound {
+    pub batch: RecordBatch,
+    pub kind: ControlBatchOrRecords,
+    pub headers: usize,
+    pub consumed: usize,
+}
+
+// How many bytes are needed, counted from the first of the batch; or why it is refused; or the rows that are needed
+// where a table has fewer.
+#[derive(Clone, Copy)]
+pub enum ReadError {
     MoreBytes(usize),
     Refused(BatchFault),
-    NoRoom {
-        records: usize,
-        headers: usize,
-    },
+    NoRoom { records: usize, headers: usize },
+}
+
+impl From<OpenError> for ReadError {
+    ghost from_gives = { λ e r. r ≡ error_of_opening e };
+
+    fn from(e: OpenError) -> ReadError {
+        match e {
+            OpenError::MoreBytes(n) => ReadError::MoreBytes(n),
+            OpenError::Refused(f) => ReadError::Refused(f),
+        }
+    }
+}
+
+impl From<RecordsError> for ReadError {
+    ghost from_gives = { λ e r. r ≡ error_of_records e };
+
+    fn from(e: RecordsError) -> ReadError {
+        match e {
+            RecordsError::Refused(f) => ReadError::Refused(BatchFault::Body(f)),
+            RecordsError::NoRoom { records, headers } => ReadError::NoRoom { records, headers },
+        }
+    }
 }
 
 impl RecordBatch {
@@ -97,7 +118,7 @@ impl RecordBatch {
     }
 
     // What the bytes begin with, by themselves: no table is needed to judge them.
-    pub fn check(mode: ControlMode, bytes: &[u8]) -> BatchCheck
+    pub fn check(mode: ControlMode, bytes: &[u8]) -> Result<BatchFound, OpenError>
         ensures { CheckPromise mode bytes.now result }
     {
         check_at(mode, bytes, 0)
@@ -110,17 +131,17 @@ impl RecordBatch {
         bytes: &[u8],
         records: &mut [i64],
         headers: &mut [i64],
-    ) -> BatchRead
+    ) -> Result<BatchFound, ReadError>
         ensures { ReadPromise mode bytes.now (tables records.old headers.old) (record { result = result; tables = tables records.new headers.new }) }
     {
         read_at(mode, bytes, 0, 0, records, headers)
     }
 
     // The time of a record with this delta.
-    pub fn record_time(self, delta: i64) -> RecordTime
+    pub fn record_time(self, delta: i64) -> Option<i64>
         ensures { RecordTimePromise self delta result }
     {
-        self.fields().record_time(delta)
+        BatchFields::from(self).record_time(delta)
     }
 
     // How many bytes the batch has when it is written: its marker, or records from the first rows of both tables, whose
@@ -133,23 +154,21 @@ impl RecordBatch {
         records: &[i64],
         headers: &[i64],
         source: &[u8],
-    ) -> Written
+    ) -> Result<usize, WriteFault>
         ensures { MeasurePromise mode self codec kind (tables records.now headers.now) source.now result }
     {
         if codec != 0 {
-            return Written::Refused(WriteFault::Codec);
+            return Err(WriteFault::Codec);
         }
         match kind {
             ControlBatchOrRecords::ControlBatch(_) => match mode {
-                ControlMode::Bare => Written::Refused(WriteFault::BareMarker),
-                ControlMode::Keyed => Written::Bytes(MARKED),
+                ControlMode::Bare => Err(WriteFault::BareMarker),
+                ControlMode::Keyed => Ok(MARKED),
             },
-            ControlBatchOrRecords::Records(count) => match measure_records(
-                records, headers, 0, count, source,
-            ) {
-                Written::Bytes(size) => Written::Bytes(BatchFields::FIXED + size),
-                Written::Refused(f) => Written::Refused(f),
-            },
+            ControlBatchOrRecords::Records(count) => {
+                let size = measure_records(records, headers, 0, count, source)?;
+                Ok(BatchFields::FIXED + size)
+            }
         }
     }
 
@@ -163,16 +182,16 @@ impl RecordBatch {
         headers: &[i64],
         source: &[u8],
         output: &mut [u8],
-    ) -> Written
+    ) -> Result<usize, WriteFault>
         ensures { WritePromise mode self codec kind (tables records.now headers.now) source.now output.old (record { result = result; output = output.new }) }
     {
-        let fields = self.fields();
+        let fields = BatchFields::from(self);
         if codec != 0 {
-            return Written::Refused(WriteFault::Codec);
+            return Err(WriteFault::Codec);
         }
         match kind {
             ControlBatchOrRecords::ControlBatch(marker) => match mode {
-                ControlMode::Bare => Written::Refused(WriteFault::BareMarker),
+                ControlMode::Bare => Err(WriteFault::BareMarker),
                 ControlMode::Keyed => write_marker(fields, marker, output),
             },
             ControlBatchOrRecords::Records(count) => write_rows(
@@ -185,56 +204,63 @@ impl RecordBatch {
     pub fn is_canonical(mode: ControlMode, bytes: &[u8]) -> bool
         ensures { CanonicalPromise mode bytes.now result }
     {
-        match open_at(bytes, 0) {
-            Opened::Got {
-                fields: _,
-                is_control,
-                count,
-                next,
-                total,
-            } => {
-                if total != bytes.len() {
-                    return false;
-                }
-                if !is_tight(bytes) {
-                    return false;
-                }
-                if is_control {
-                    return ControlBatchRecord::stands(mode, bytes, next);
-                }
-                canonical_records(bytes, next.at, count)
-            }
-            Opened::MoreBytes(_) => false,
-            Opened::Refused(_) => false,
+        let Ok(opened) = open_at(bytes, 0) else {
+            return false;
+        };
+        if opened.total != bytes.len() {
+            return false;
         }
+        if !is_tight(bytes) {
+            return false;
+        }
+        let next = opened.next;
+        if opened.is_control {
+            return ControlBatchRecord::stands(mode, bytes, next);
+        }
+        canonical_records(bytes, next.at, opened.count)
     }
 }
 
 // The batch that starts at `at`.
-fn check_at(mode: ControlMode, bytes: &[u8], at: usize) -> BatchCheck
+fn check_at(mode: ControlMode, bytes: &[u8], at: usize) -> Result<BatchFound, OpenError>
     ensures { view_check result ≡ answer_with_room (judge_at mode bytes.now at 0) }
 {
-    match open_at(bytes, at) {
-        Opened::Got {
-            fields,
-            is_control,
-            count,
-            next,
-            total,
-        } => {
-            let batch = RecordBatch::of(fields);
-            let end = at + total;
-            if is_control {
-                return check_marker(mode, &bytes[..end], next, batch, total);
-            }
-            let s = &bytes[..end];
-            let mut no_records: [i64; 0] = [];
-            let mut no_headers: [i64; 0] = [];
-            let read = read_body(s, next.at, count, 0, &mut no_records, &mut no_headers);
-            as_check(read, batch, total)
-        }
-        Opened::MoreBytes(n) => BatchCheck::MoreBytes(n),
-        Opened::Refused(f) => BatchCheck::Refused(f),
+    let opened = open_at(bytes, at)?;
+    let batch = RecordBatch::from(opened.fields);
+    let consumed = opened.total;
+    let s = &bytes[..at + consumed];
+    let next = opened.next;
+    if opened.is_control {
+        return check_marker(mode, s, next, batch, consumed);
+    }
+    let read = read_body(s, next.at, opened.count, 0, &mut [], &mut []);
+    as_check(read, batch, consumed)
+}
+
+// What the reading of its records, into tables of no rows, says of a batch that is checked: that the tables are short
+// is no fault of the batch, and the counts are the same.
+fn as_check(
+    read: Result<RecordsFound, RecordsError>,
+    batch: RecordBatch,
+    consumed: usize,
+) -> Result<BatchFound, OpenError>
+    ensures { result ≡ check_of_records_read batch consumed read }
+{
+    match read {
+        Ok(
+            RecordsFound {
+                records,
+                headers,
+                ..
+            },
+        )
+        | Err(RecordsError::NoRoom { records, headers }) => Ok(BatchFound {
+            batch,
+            kind: ControlBatchOrRecords::Records(records),
+            headers,
+            consumed,
+        }),
+        Err(RecordsError::Refused(f)) => Err(OpenError::Refused(BatchFault::Body(f))),
     }
 }
 
@@ -244,40 +270,17 @@ fn check_marker(
     s: &[u8],
     c: Cursor,
     batch: RecordBatch,
-    total: usize,
-) -> BatchCheck
-    ensures { view_check result ≡ answer_with_room (judged_as (view_fields batch) 0 total (map_step control (way_of mode s.now c.at))) }
+    consumed: usize,
+) -> Result<BatchFound, OpenError>
+    ensures { view_check result ≡ answer_with_room (judged_as (view_fields batch) 0 consumed (map_step control (way_of mode s.now c.at))) }
 {
-    match ControlBatchRecord::read(mode, s, c) {
-        ControlBatchRecordRead::Got(marker, _) => BatchCheck::Accepted {
-            batch,
-            kind: ControlBatchOrRecords::ControlBatch(marker),
-            headers: 0,
-            consumed: total,
-        },
-        ControlBatchRecordRead::Refused(f) => BatchCheck::Refused(f),
-    }
-}
-
-// What the reading of its records, into tables of no rows, says of a batch that is checked: that the tables are short
-// is no fault of the batch, and the counts are the same.
-fn as_check(read: RecordsRead, batch: RecordBatch, total: usize) -> BatchCheck
-    ensures { result ≡ check_of_records_read batch total read }
-{
-    match read {
-        RecordsRead::Accepted {
-            records,
-            headers,
-            end: _,
-        }
-        | RecordsRead::NoRoom { records, headers } => BatchCheck::Accepted {
-            batch,
-            kind: ControlBatchOrRecords::Records(records),
-            headers,
-            consumed: total,
-        },
-        RecordsRead::Refused(f) => BatchCheck::Refused(BatchFault::Body(f)),
-    }
+    let (marker, _) = ControlBatchRecord::read(mode, s, c)?;
+    Ok(BatchFound {
+        batch,
+        kind: ControlBatchOrRecords::ControlBatch(marker),
+        headers: 0,
+        consumed,
+    })
 }
 
 // The batch that starts at `at`, its header rows from `first_header_row` on.
@@ -288,81 +291,39 @@ fn read_at(
     first_header_row: usize,
     records: &mut [i64],
     headers: &mut [i64],
-) -> BatchRead
+) -> Result<BatchFound, ReadError>
     ensures { ReadBy (judge_at mode bytes.now at first_header_row) (tables records.old headers.old) (record { result = result; tables = tables records.new headers.new }) }
 {
-    match open_at(bytes, at) {
-        Opened::Got {
-            fields,
-            is_control,
-            count,
-            next,
-            total,
-        } => {
-            let batch = RecordBatch::of(fields);
-            let end = at + total;
-            if is_control {
-                return as_read(check_marker(mode, &bytes[..end], next, batch, total));
-            }
-            let s = &bytes[..end];
-            let read = read_body(s, next.at, count, first_header_row, records, headers);
-            of_records(read, batch, total)
-        }
-        Opened::MoreBytes(n) => BatchRead::MoreBytes(n),
-        Opened::Refused(f) => BatchRead::Refused(f),
+    let opened = open_at(bytes, at)?;
+    let batch = RecordBatch::from(opened.fields);
+    let consumed = opened.total;
+    let s = &bytes[..at + consumed];
+    let next = opened.next;
+    if opened.is_control {
+        return Ok(check_marker(mode, s, next, batch, consumed)?);
     }
+    let found = read_body(s, next.at, opened.count, first_header_row, records, headers)?;
+    Ok(BatchFound {
+        batch,
+        kind: ControlBatchOrRecords::Records(found.records),
+        headers: found.headers,
+        consumed,
+    })
 }
 
-// What needs no rows is read as it is checked.
-fn as_read(check: BatchCheck) -> BatchRead
-    ensures { view_read result ≡ view_check check }
-{
-    match check {
-        BatchCheck::Accepted {
-            batch,
-            kind,
-            headers,
-            consumed,
-        } => BatchRead::Accepted {
-            batch,
-            kind,
-            headers,
-            consumed,
-        },
-        BatchCheck::MoreBytes(n) => BatchRead::MoreBytes(n),
-        BatchCheck::Refused(f) => BatchRead::Refused(f),
-    }
-}
-
-// What the reading of its records says of a batch.
-fn of_records(read: RecordsRead, batch: RecordBatch, total: usize) -> BatchRead
-    ensures { result ≡ of_records_read batch total read }
-{
-    match read {
-        RecordsRead::Accepted {
-            records,
-            headers,
-            end: _,
-        } => BatchRead::Accepted {
-            batch,
-            kind: ControlBatchOrRecords::Records(records),
-            headers,
-            consumed: total,
-        },
-        RecordsRead::Refused(f) => BatchRead::Refused(BatchFault::Body(f)),
-        RecordsRead::NoRoom { records, headers } => BatchRead::NoRoom { records, headers },
-    }
-}
-
-fn write_marker(fields: BatchFields, marker: ControlBatchRecord, output: &mut [u8]) -> Written
+fn write_marker(
+    fields: BatchFields,
+    marker: ControlBatchRecord,
+    output: &mut [u8],
+) -> Result<usize, WriteFault>
     ensures { WriteBy (given (written_batch (record { fields = view_batch_fields fields; content = control (view_marker marker) }))) 0 output.old (record { result = result; output = output.new }) }
 {
     if output.len() < MARKED {
-        return Written::Refused(WriteFault::ShortOutput);
+        return Err(WriteFault::ShortOutput);
     }
     marker.put(output, BatchFields::FIXED);
     finish(fields, true, Int32(1), MARKED, output);
-    Written::Bytes(MARKED)
+    Ok(MARKED)
 }
 
 // The records come first: the fixed fields in front of them have their length and checksum. They are written alike in
@@ -374,10 +335,10 @@ fn write_rows(
     headers: &[i64],
     source: &[u8],
     output: &mut [u8],
-) -> Written
+) -> Result<usize, WriteFault>
     ensures { WriteBy (batch_given_by (view_batch_fields fields) source.now (rows_asked count (tables records.now headers.now) source.now)) 0 output.old (record { result = result; output = output.new }) }
 {
-    match write_records(
+    let size = write_records(
         records,
         headers,
         0,
@@ -385,14 +346,10 @@ fn write_rows(
         source,
         output,
         BatchFields::FIXED,
-    ) {
-        Written::Bytes(size) => {
-            let end = BatchFields::FIXED + size;
-            finish(fields, false, Int32(count as i32), end, output);
-            Written::Bytes(end)
-        }
-        Written::Refused(f) => Written::Refused(f),
-    }
+    )?;
+    let end = BatchFields::FIXED + size;
+    finish(fields, false, Int32(count as i32), end, output);
+    Ok(end)
 }
 
 // Puts the fixed fields in front of a body, which stands in its place in the output and ends at `end`.
@@ -407,66 +364,48 @@ fn finish(fields: BatchFields, is_control: bool, count: Int32, end: usize, outpu
     put(&fixed, output, 0);
 }
 
-impl RecordBatch {
-    // The fields, as they are laid out. They are of their width.
-    fn fields(self) -> BatchFields
-        ensures { Laid self result }
-    {
-        let base_offset = self.base_offset;
-        let partition_leader_epoch = self.partition_leader_epoch;
-        let timestamp_type = self.timestamp_type;
-        let is_transactional = self.is_transactional;
-        let last_offset_delta = self.last_offset_delta;
-        let first_timestamp = self.first_timestamp;
-        let max_timestamp = self.max_timestamp;
-        let id = self.producer_id;
-        let epoch = self.producer_epoch;
-        let base_sequence = self.base_sequence;
+// The fields, as they are laid out. They are of their width.
+impl From<RecordBatch> for BatchFields {
+    ghost from_gives = { Laid };
+
+    fn from(batch: RecordBatch) -> BatchFields {
         BatchFields {
-            base_offset,
-            partition_leader_epoch,
-            timestamp_type,
-            is_transactional,
+            base_offset: batch.base_offset,
+            partition_leader_epoch: batch.partition_leader_epoch,
+            timestamp_type: batch.timestamp_type,
+            is_transactional: batch.is_transactional,
             times: Times {
-                last_offset_delta,
-                first_timestamp,
-                max_timestamp,
+                last_offset_delta: batch.last_offset_delta,
+                first_timestamp: batch.first_timestamp,
+                max_timestamp: batch.max_timestamp,
             },
             producer: Producer {
-                id,
-                epoch,
-                base_sequence,
+                id: batch.producer_id,
+                epoch: batch.producer_epoch,
+                base_sequence: batch.base_sequence,
             },
         }
     }
+}
 
-    // The batch that has these fields.
-    fn of(fields: BatchFields) -> RecordBatch
-        ensures { view_fields result ≡ view_batch_fields fields }
-    {
-        let base_offset = fields.base_offset;
-        let partition_leader_epoch = fields.partition_leader_epoch;
-        let timestamp_type = fields.timestamp_type;
-        let is_transactional = fields.is_transactional;
+// The batch that has these fields.
+impl From<BatchFields> for RecordBatch {
+    ghost from_gives = { λ fields batch. view_fields batch ≡ view_batch_fields fields };
+
+    fn from(fields: BatchFields) -> RecordBatch {
         let times = fields.times;
-        let last_offset_delta = times.last_offset_delta;
-        let first_timestamp = times.first_timestamp;
-        let max_timestamp = times.max_timestamp;
         let producer = fields.producer;
-        let producer_id = producer.id;
-        let producer_epoch = producer.epoch;
-        let base_sequence = producer.base_sequence;
         RecordBatch {
-            base_offset,
-            partition_leader_epoch,
-            last_offset_delta,
-            first_timestamp,
-            max_timestamp,
-            producer_id,
-            producer_epoch,
-            base_sequence,
-            is_transactional,
-            timestamp_type,
+            base_offset: fields.base_offset,
+            partition_leader_epoch: fields.partition_leader_epoch,
+            last_offset_delta: times.last_offset_delta,
+            first_timestamp: times.first_timestamp,
+            max_timestamp: times.max_timestamp,
+            producer_id: producer.id,
+            producer_epoch: producer.epoch,
+            base_sequence: producer.base_sequence,
+            is_transactional: fields.is_transactional,
+            timestamp_type: fields.timestamp_type,
         }
     }
 }

@@ -5,128 +5,78 @@
 
 ghost use Rattle.std.specs.Prelude.{◌+◌, ◌≡◌};
 ghost use Rattle.primitives.specs.Step.{map_step, times};
+ghost use Rattle.primitives.specs.Answers.{view_read};
 ghost use Rattle.records.specs.Judgement.{header_at, fields_at};
+ghost use Rattle.records.specs.Answers.{record_number_of};
 ghost use Rattle.sizes.specs.Sizes.{place_size, head_size, capped};
 ghost use Rattle.canonical.specs.Promises.{CanonicalRecordsPromise};
-ghost use Rattle.canonical.specs.Tight.{headers_onto, fields_capped, view_size, Strictly};
+ghost use Rattle.canonical.specs.Tight.{headers_onto, fields_capped, Strictly};
 
 use primitives::Cursor;
-use records::{
-    CountRead, Record, RecordFault, RecordHeader, RecordHeaderRead, RecordRead, read_count,
-};
+use records::{Record, RecordFault, RecordHeader, read_count};
 use sizes::{capped, number_size, place_size};
-
-// The place after a record in the form in which it is written.
-#[derive(Drop)]
-enum StrictRead {
-    To(Cursor),
-    Refused,
-}
-
-// How many bytes would be written for what was read, and the place after it.
-#[derive(Drop)]
-enum SizeRead {
-    Of(usize, Cursor),
-    Refused(RecordFault),
-}
 
 // Whether `count` records stand from `at` on up to the end of the bytes, in the form in which they are written.
 pub fn canonical_records(bytes: &[u8], at: usize, count: usize) -> bool
     ensures { CanonicalRecordsPromise bytes.now at count result }
 {
     let mut c = Cursor { at };
-    let mut left = count;
-    while 0 < left {
-        match canonical_record(bytes, c) {
-            StrictRead::To(next) => {
-                c = next;
-            }
-            StrictRead::Refused => {
-                return false;
-            }
-        }
-        left -= 1;
+    for _ in 0..count {
+        let Some(next) = canonical_record(bytes, c) else {
+            return false;
+        };
+        c = next;
     }
-    if c.at == bytes.len() {
-        return true;
-    }
-    false
+    c.at == bytes.len()
 }
 
-// A record. It lies within the bytes, so its fields are read from those that its length names.
-fn canonical_record(s: &[u8], c: Cursor) -> StrictRead
+// A record in the form in which it is written, and the place after it. It lies within the bytes, so its fields are read
+// from those that its length names.
+fn canonical_record(s: &[u8], c: Cursor) -> Option<Cursor>
     ensures { Strictly s.now c.at result }
 {
-    match read_count(c, s) {
-        CountRead::Got(n, start) => {
-            let from = start.at;
-            if c.at + number_size(n as i64) != from {
-                return StrictRead::Refused;
-            }
-            if s.len() <= from {
-                return StrictRead::Refused;
-            }
-            if s[from] != 0 {
-                return StrictRead::Refused;
-            }
-            let size = n as usize;
-            let end = from + size;
-            if s.len() < end {
-                return StrictRead::Refused;
-            }
-            match fields_size(&s[..end], start) {
-                SizeRead::Of(written, next) => {
-                    if next.at != end {
-                        return StrictRead::Refused;
-                    }
-                    if written != size {
-                        return StrictRead::Refused;
-                    }
-                    StrictRead::To(next)
-                }
-                SizeRead::Refused(_) => StrictRead::Refused,
-            }
-        }
-        CountRead::Refused(_) => StrictRead::Refused,
+    let (n, start) = read_count(c, s).ok()?;
+    let from = start.at;
+    if c.at + number_size(i64::from(n)) != from {
+        return None;
     }
+    let attributes = *s.get(from)?;
+    if attributes != 0 {
+        return None;
+    }
+    let size = n as usize;
+    let end = from + size;
+    let fields = s.get(..end)?;
+    let (written, next) = fields_size(fields, start).ok()?;
+    if next.at == end && written == size {
+        return Some(next);
+    }
+    None
 }
 
-// What follows a record's length.
-fn fields_size(s: &[u8], c: Cursor) -> SizeRead
-    ensures { view_size result ≡ map_step fields_capped (fields_at s.now c.at) }
+// How many bytes would be written for what follows a record's length.
+#[tactic(auto, using(crate::proofs::SizeSteps::headers_small, crate::proofs::SizeSteps::fields_got, crate::proofs::SizeSteps::fields_no_headers, crate::proofs::SizeSteps::fields_no_head))]
+fn fields_size(s: &[u8], c: Cursor) -> Result<(usize, Cursor), RecordFault>
+    ensures { view_read record_number_of (λ n. n) result ≡ map_step fields_capped (fields_at s.now c.at) }
 {
-    match Record::read(c, s) {
-        RecordRead::Got(r, next) => {
-            let count = r.headers;
-            match headers_size(s, next, count) {
-                SizeRead::Of(headers, end) => SizeRead::Of(capped(head_size(r) + headers), end),
-                SizeRead::Refused(f) => SizeRead::Refused(f),
-            }
-        }
-        RecordRead::Refused(f) => SizeRead::Refused(RecordFault::Field(f)),
-    }
+    let (r, next) = Record::read(c, s)?;
+    let (headers, end) = headers_size(s, next, r.headers)?;
+    Ok((capped(head_size(r) + headers), end))
 }
 
-// The headers of a record.
-fn headers_size(s: &[u8], from: Cursor, count: u32) -> SizeRead
-    ensures { view_size result ≡ map_step (headers_onto 0) (times (header_at s.now) count from.at) }
+// How many bytes would be written for the headers of a record.
+#[tactic(auto, using(crate::proofs::SizeSteps::headers_stop, crate::proofs::SizeSteps::headers_turn, crate::proofs::SizeSteps::headers_end))]
+fn headers_size(s: &[u8], from: Cursor, count: u32) -> Result<(usize, Cursor), RecordFault>
+    ensures { view_read record_number_of (λ n. n) result ≡ map_step (headers_onto 0) (times (header_at s.now) count from.at) }
 {
     let mut c = from;
-    let mut left = count;
     let mut sum: usize = 0;
-    while 0 < left {
-        match RecordHeader::read(c, s) {
-            RecordHeaderRead::Got(h, next) => {
-                sum = capped(sum + header_size(h));
-                c = next;
-            }
-            RecordHeaderRead::Refused(f) => {
-                return SizeRead::Refused(f);
-            }
-        }
-        left -= 1;
+    for _ in 0..count {
+        let (h, next) = RecordHeader::read(c, s)?;
+        sum = capped(sum + header_size(h));
+        c = next;
     }
-    SizeRead::Of(sum, c)
+    Ok((sum, c))
 }
 
 // What a record has before its headers.
@@ -134,17 +84,14 @@ fn head_size(r: Record) -> usize
     ensures { result ≡ capped (head_size r.deltas.timestamp r.deltas.offset r.key.len r.value.len r.headers) }
 {
     let deltas = r.deltas;
-    let key = r.key;
-    let value = r.value;
-    let count = r.headers as i64;
-    let numbers = number_size(deltas.timestamp) + number_size(deltas.offset) + number_size(count);
-    capped(1 + numbers + place_size(key.len) + place_size(value.len))
+    let numbers = number_size(deltas.timestamp)
+        + number_size(deltas.offset)
+        + number_size(i64::from(r.headers));
+    capped(1 + numbers + place_size(r.key.len) + place_size(r.value.len))
 }
 
 fn header_size(h: RecordHeader) -> usize
     ensures { result ≡ capped (place_size h.key.len + place_size h.value.len) }
 {
-    let key = h.key;
-    let value = h.value;
-    capped(place_size(key.len) + place_size(value.len))
+    capped(place_size(h.key.len) + place_size(h.value.len))
 }

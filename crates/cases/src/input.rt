@@ -2,19 +2,20 @@
 ghost use Rattle.std.specs.Prelude.{◌≡◌, length};
 ghost use Rattle.std.specs.Io.{ReadsAtMost};
 
-use crate::groups::ROOM;
 use std::io;
 use std::io::Read;
 
 // Room for a text. The length alone is promised, so that no caller looks at half a million zeros.
-pub fn room() -> [u8; ROOM]
-    ensures { 524288 ≡ length result }
+pub fn room<const N: usize>() -> [u8; N]
+    ensures { N ≡ length result }
 {
-    [0; ROOM]
+    [0; N]
 }
 
-// Reads until the room is full or the input ends, and returns how many bytes it put at the start of the room. Into no
-// room nothing is read.
+// Reads until the room is full or the input ends, and returns how many bytes it put at the start of the room. A read
+// that fails is not the end, and one read more need not find it: a connection that was reset says so once. After the
+// end nothing is read, so that no byte of a file that grows is taken and then dropped, and no terminal is waited for
+// again. Into no room nothing is read.
 pub fn read_full(input: &mut impl Read, room: &mut [u8]) -> io::Result<usize>
     ensures { ReadsAtMost result room.new }
 {

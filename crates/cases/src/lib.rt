@@ -4,7 +4,6 @@
 
 pub mod groups;
 pub mod input;
-pub mod integer;
 pub mod outputs;
 pub mod tables;
 pub mod tally;

@@ -1,67 +1,69 @@
 // How many cases were run, and how many of them differed.
-use std::io;
+ghost use Rattle.std.specs.Prelude.{◌≡◌, ◌+◌, ◌-◌, ◌^◌, ◌<◌, min, if◌then◌else◌};
 
-#[derive(Clone, Copy)]
+use std::ops::Add;
+use std::{fmt, io};
+
+#[derive(Clone, Copy, Default)]
 pub struct Tally {
     pub cases: u64,
     pub differ: u64,
 }
 
 impl Tally {
-    pub fn new() -> Self {
-        Tally {
-            cases: 0,
-            differ: 0,
-        }
-    }
-
-    pub fn with(self, agrees: bool) -> Self {
-        let cases = sum(self.cases, 1);
-        if agrees {
-            return Tally {
-                cases,
-                differ: self.differ,
-            };
-        }
-        Tally {
-            cases,
-            differ: sum(self.differ, 1),
-        }
-    }
-
-    pub fn plus(self, other: Tally) -> Self {
-        Tally {
-            cases: sum(self.cases, other.cases),
-            differ: sum(self.differ, other.differ),
-        }
+    pub fn with(self, agrees: bool) -> Self
+        ensures { 0 < result.cases }
+    {
+        self + Tally::from(agrees)
     }
 
     // A group with no case has shown nothing, and counts as one that differs.
-    pub fn settled(self) -> Self {
-        if self.cases == 0 {
-            return Tally {
+    pub fn settled(self) -> Self
+        ensures { 0 < result.cases + result.differ }
+    {
+        match self.cases {
+            0 => Tally {
                 cases: 0,
                 differ: 1,
-            };
+            },
+            _ => self,
         }
-        self
     }
 
     pub fn print(self, rt: &impl Print, name: &[u8]) -> io::Result<()> {
         rt.write_all(name)?;
-        self.print_counts(rt)
-    }
-
-    pub fn print_counts(self, rt: &impl Print) -> io::Result<()> {
-        let cases = self.cases;
-        let differ = self.differ;
-        println!(rt; ": {cases} cases, {differ} differ")
+        println!(rt; ": {self}")
     }
 }
 
-fn sum(a: u64, b: u64) -> u64 {
-    if 0xFFFF_FFFF_FFFF_FFFF - b < a {
-        return 0xFFFF_FFFF_FFFF_FFFF;
+// One case.
+impl From<bool> for Tally {
+    ghost from_gives = { λ agrees t. (t.cases ≡ 1) × (t.differ ≡ (if agrees then 0 else 1)) };
+
+    fn from(agrees: bool) -> Self {
+        Tally {
+            cases: 1,
+            differ: u64::from(!agrees),
+        }
     }
-    a + b
+}
+
+impl Add for Tally {
+    type Output = Tally;
+
+    ghost add_gives = { λ a b sum. (sum.cases ≡ min (a.cases + b.cases) (2 ^ 64 - 1)) × (sum.differ ≡ min (a.differ + b.differ) (2 ^ 64 - 1)) };
+
+    fn add(self, other: Tally) -> Tally {
+        Tally {
+            cases: self.cases.saturating_add(other.cases),
+            differ: self.differ.saturating_add(other.differ),
+        }
+    }
+}
+
+impl fmt::Display for Tally {
+    fn fmt<W: fmt::Write>(&self, f: &mut fmt::Formatter<W>) -> fmt::Result {
+        let Tally { cases, differ } = *self;
+        write!(f, "{cases} cases, {differ} differ")
+    }
 }

@@ -11,32 +11,30 @@ use lib.ListN.{length, take, drop}
 use lib.Seq.{length-take-le}
 use Rattle.numbers.specs.Bytes.{Bytes}
 use Rattle.numbers.specs.Promises.{PutPromise}
-use Rattle.primitives.specs.declared.Cursor.{Cursor}
-use Rattle.primitives.specs.Step.{ok}
+use Rattle.primitives.specs.Step.{ok, no}
 use Rattle.primitives.proofs.Steps.{ok_not_no, map_ok}
 use Rattle.primitives.proofs.Windows.{window_bytes}
 use Rattle.records.specs.Judgement.{RecordSpans, records_at}
 use Rattle.layout.specs.declared.ControlMode.{ControlMode}
 use Rattle.layout.specs.Batch.{Marker, Content, control, records}
 use Rattle.opening.specs.declared.BatchFault.{BatchFault}
+use Rattle.opening.specs.declared.OpenError.{OpenError}
+use Rattle.std.specs.Prelude.{Result, Ok, Err}
 use Rattle.opening.specs.Judgement.{Judged, Judgement, more, refused, accepted, Accepted, attributes_in, content_at, bare_marker_at, way_of, judge}
 use Rattle.opening.specs.Answers.{batch_number_of}
 use Rattle.opening.proofs.Verdicts.{refused_not_accepted, more_not_refused}
 use Rattle.opening.proofs.Single.{refusal, refusal_again}
 use Rattle.markers.specs.declared.ControlBatchRecord.{ControlBatchRecord}
-use Rattle.markers.specs.declared.ControlBatchRecordRead.{ControlBatchRecordRead}
-use Rattle.markers.specs.Markers.{view_marker, view_marker_read}
+use Rattle.markers.specs.Markers.{view_marker}
 use Rattle.markers.proofs.Bare.{bare_length, bare_sound}
-use Rattle.batches.specs.declared.RecordBatch.{RecordBatch}
-use Rattle.batches.specs.declared.ControlBatchOrRecords.{ControlBatchOrRecords}
-use Rattle.batches.specs.declared.BatchCheck.{BatchCheck}
+use Rattle.batches.specs.declared.BatchFound.{BatchFound}
 use Rattle.batches.specs.Answers as Batches
 use Rattle.batches.specs.Promises.{CheckPromise}
 use Rattle.batches.specs.Statements.{FormerMarker}
 use Rattle.batches.proofs.Again.{none_not_some}
 use Rattle.batches.proofs.Numbers.{refusals, ways_within}
 use Rattle.batches.proofs.Passed.{passed}
-use Rattle.converting.specs.declared.Converted.{Converted}
+use Rattle.converting.specs.declared.ConvertError.{ConvertError}
 use Rattle.converting.specs.Conversion.{Conversion, rekeyed, copied, conversion_of}
 use Rattle.converting.specs.Answers.{answer_of, output_of}
 use Rattle.converting.specs.Promises.{ConvertOutcome, ConvertPromise}
@@ -47,12 +45,12 @@ use Rattle.converting.proofs.Copying.{put_first, rekeyed_length}
 -- ---- what is given has room, or has none
 
 module _ (c : Conversion) (out : List ℕ) where
-  given_short : length out < length c.given → GivenBy (accepted c) out (record { result = Converted.ShortOutput; output = out })
+  given_short : length out < length c.given → GivenBy (accepted c) out (record { result = Err ConvertError.ShortOutput; output = out })
   given_short h =
       record { answer = rw (lt-leb (length c.given) (length out) h); output = rw (lt-leb (length c.given) (length out) h) }
 
   given_done : (output : List ℕ) → length c.given ≤ length out → output ≡ c.given ++ drop (length c.given) out
-      → GivenBy (accepted c) out (record { result = Converted.Done c.taken (length c.given); output = output })
+      → GivenBy (accepted c) out (record { result = Ok (record { taken = c.taken; given = length c.given }); output = output })
   given_done output h e =
       record { answer = rw (le-leb (length c.given) (length out) h); output = e ∙ rw (le-leb (length c.given) (length out) h) }
 
@@ -61,11 +59,11 @@ module _ (s out : List ℕ) where
   abbrev as_it_stands : Conversion
   as_it_stands = record { taken = length s; given = s }
 
-  pub copy_short : length out < length s → GivenBy (accepted as_it_stands) out (record { result = Converted.ShortOutput; output = out })
+  pub copy_short : length out < length s → GivenBy (accepted as_it_stands) out (record { result = Err ConvertError.ShortOutput; output = out })
   copy_short h = given_short as_it_stands out h
 
   pub copy_done : (next : ℕ) (output : List ℕ) → length s ≤ length out → PutPromise s out 0 (record { next = next; output = output })
-      → GivenBy (accepted as_it_stands) out (record { result = Converted.Done (length s) (length s); output = output })
+      → GivenBy (accepted as_it_stands) out (record { result = Ok (record { taken = length s; given = length s }); output = output })
   copy_done next output h p = given_done as_it_stands out output h (p.output ∙ put_first s out h)
 
 -- ---- a marker that stands alone
@@ -134,23 +132,23 @@ module _ (s : List ℕ) (bytes : Bytes s) (e : judge ControlMode.Keyed s ≡ ref
     long : length (rekeyed s (bare s bytes e).marker) ≡ 72
     long = rekeyed_length s (bare s bytes e).marker bare_fixed
 
-    pub rekey_short : length out < 72 → GivenBy (conversion_of s) out (record { result = Converted.ShortOutput; output = out })
+    pub rekey_short : length out < 72 → GivenBy (conversion_of s) out (record { result = Err ConvertError.ShortOutput; output = out })
     rekey_short h = given_bare _ (given_short _ out (omega (arith, long)))
 
-    module _ (r : ControlBatchRecordRead) (f : view_marker_read r ≡ bare_marker_at (take 65 s) 61) where
-      -- what has been judged is not refused
-      pub rekey_never : (h : BatchFault) → r ≡ ControlBatchRecordRead.Refused h → (o : ConvertOutcome) → GivenBy (conversion_of s) out o
-      rekey_never h g o = ok_not_no (sym (bare s bytes e).reads ∙ sym f ∙ ap view_marker_read g)
+    -- what has been judged is not refused
+    pub rekey_never : {n : ℕ} → no n ≡ bare_marker_at (take 65 s) 61 → (o : ConvertOutcome) → GivenBy (conversion_of s) out o
+    rekey_never f o = ok_not_no (sym (bare s bytes e).reads ∙ sym f)
 
-      pub rekey_done : (m : ControlBatchRecord) (end : Cursor) → r ≡ ControlBatchRecordRead.Got m end → 72 ≤ length out
-          → (output : List ℕ) → output ≡ rekeyed s (view_marker m) ++ drop 72 out
-          → GivenBy (conversion_of s) out (record { result = Converted.Done 65 72; output = output })
-      rekey_done m end g room output is =
-          let b = bare s bytes e in
-          let w : ok (view_marker m) end.at ≡ ok b.marker b.end = sym (ap view_marker_read g) ∙ f ∙ b.reads in
-          let same : view_marker m ≡ b.marker = cc in
-          let done = given_done given out output (omega (arith, long)) (is ∙ (λ i. rekeyed s (same i) ++ drop (sym long i) out)) in
-          given_bare _ (subst (λ (n : ℕ). GivenBy (accepted given) out (record { result = Converted.Done 65 n; output = output })) long done)
+    pub rekey_done : (m : ControlBatchRecord) (end : ℕ) → ok (view_marker m) end ≡ bare_marker_at (take 65 s) 61 → 72 ≤ length out
+        → (output : List ℕ) → output ≡ rekeyed s (view_marker m) ++ drop 72 out
+        → GivenBy (conversion_of s) out (record { result = Ok (record { taken = 65; given = 72 }); output = output })
+    rekey_done m end f room output is =
+        let b = bare s bytes e in
+        let w : ok (view_marker m) end ≡ ok b.marker b.end = f ∙ b.reads in
+        let same : view_marker m ≡ b.marker = cc in
+        let done = given_done given out output (omega (arith, long)) (is ∙ (λ i. rekeyed s (same i) ++ drop (sym long i) out)) in
+        given_bare _
+        (subst (λ (n : ℕ). GivenBy (accepted given) out (record { result = Ok (record { taken = 65; given = n }); output = output })) long done)
 
 -- ---- what the check says
 
@@ -160,11 +158,15 @@ number_some f e =
     let z : ◌≡◌ {A = ℕ} 0 1 = sym (ap (refusal 0 1 (λ (_ : BatchFault). 1)) e) ∙ refusal_again 0 1 (λ (_ : BatchFault). 1) f in
     omega arith
 
+-- one fault alone has the number 41
+only_bare : (f : BatchFault) → batch_number_of f ≡ 41 → f ≡ BatchFault.BareMarker
+only_bare f e = sym (refusal_again f f (λ g. g) f) ∙ ap (refusal f f (λ g. g)) e
+
 numbered : {a b : Batches.Answer} → a ≡ b → a.number ≡ b.number
 numbered e = ap (λ (a : Batches.Answer). a.number) e
 
-module _ (s : List ℕ) (r : BatchCheck) (p : CheckPromise ControlMode.Keyed s r) where
-  answered : (x : BatchCheck) → r ≡ x → Batches.view_check x ≡ Batches.answer_with_room (judge ControlMode.Keyed s)
+module _ (s : List ℕ) (r : Result BatchFound OpenError) (p : CheckPromise ControlMode.Keyed s r) where
+  answered : (x : Result BatchFound OpenError) → r ≡ x → Batches.view_check x ≡ Batches.answer_with_room (judge ControlMode.Keyed s)
   answered x e = ap Batches.view_check (sym e) ∙ p.answer
 
   refused_some : (n : ℕ) → judge ControlMode.Keyed s ≡ refused n → 2 ≤ n
@@ -174,18 +176,16 @@ module _ (s : List ℕ) (r : BatchCheck) (p : CheckPromise ControlMode.Keyed s r
         | inr f ↦ omega arith
       ]
 
-  accepted_judged : (b : RecordBatch) (k : ControlBatchOrRecords) (m n : ℕ) → r ≡ BatchCheck.Accepted b k m n
-      → (a : Accepted) × (judge ControlMode.Keyed s ≡ accepted a) × (n ≡ a.consumed)
-  accepted_judged b k m n e = by (judge ControlMode.Keyed s) refl (answered _ e)
+  accepted_judged : (x : BatchFound) → r ≡ Ok x → (a : Accepted) × (judge ControlMode.Keyed s ≡ accepted a) × (x.consumed ≡ a.consumed)
+  accepted_judged x e = by (judge ControlMode.Keyed s) refl (answered _ e)
     where
-      by : (j : Judgement) → judge ControlMode.Keyed s ≡ j
-          → Batches.accepts (Batches.view_fields b) (Batches.view_kind k) (Batches.view_count k) m n ≡ Batches.answer_with_room j
-          → (a : Accepted) × (judge ControlMode.Keyed s ≡ accepted a) × (n ≡ a.consumed)
+      by : (j : Judgement) → judge ControlMode.Keyed s ≡ j → Batches.view_found x ≡ Batches.answer_with_room j
+          → (a : Accepted) × (judge ControlMode.Keyed s ≡ accepted a) × (x.consumed ≡ a.consumed)
       by (more _) j w = none_not_some (sym (ap (λ (a : Batches.Answer). a.fields) w))
       by (refused _) j w = none_not_some (sym (ap (λ (a : Batches.Answer). a.fields) w))
       by (accepted a) j w = (a, j, ap (λ (a : Batches.Answer). a.bytes) w)
 
-  more_judged : (n : ℕ) → r ≡ BatchCheck.MoreBytes n → judge ControlMode.Keyed s ≡ more n
+  more_judged : (n : ℕ) → r ≡ Err (OpenError.MoreBytes n) → judge ControlMode.Keyed s ≡ more n
   more_judged n e = by (judge ControlMode.Keyed s) refl (answered _ e)
     where
       by : (j : Judgement) → judge ControlMode.Keyed s ≡ j → Batches.wants n ≡ Batches.answer_with_room j → judge ControlMode.Keyed s ≡ more n
@@ -193,7 +193,7 @@ module _ (s : List ℕ) (r : BatchCheck) (p : CheckPromise ControlMode.Keyed s r
       by (refused k) j w = absurd (omega (arith, refused_some k j, numbered w))
       by (accepted a) j w = none_not_some (ap (λ (a : Batches.Answer). a.fields) w)
 
-  refused_judged : (f : BatchFault) → r ≡ BatchCheck.Refused f → judge ControlMode.Keyed s ≡ refused (batch_number_of f)
+  refused_judged : (f : BatchFault) → r ≡ Err (OpenError.Refused f) → judge ControlMode.Keyed s ≡ refused (batch_number_of f)
   refused_judged f e = by (judge ControlMode.Keyed s) refl (answered _ e)
     where
       by : (j : Judgement) → judge ControlMode.Keyed s ≡ j → Batches.refuses (batch_number_of f) ≡ Batches.answer_with_room j
@@ -219,15 +219,15 @@ module _ (s : List ℕ) (r : BatchCheck) (p : CheckPromise ControlMode.Keyed s r
           output = g.output ∙ ap (λ (i : Judged Conversion). output_of i out) (sym e);
         }
 
-    pub convert_more : (n : ℕ) → r ≡ BatchCheck.MoreBytes n → ConvertPromise s out (record { result = Converted.MoreBytes n; output = out })
+    pub convert_more : (n : ℕ) → r ≡ Err (OpenError.MoreBytes n) → ConvertPromise s out (record { result = Err (ConvertError.MoreBytes n); output = out })
     convert_more n e =
         promised (more n) _ (as_copied (more n) (more_judged n e) more_not_refused) (record { answer = refl; output = refl })
 
-    pub convert_refused : (f : BatchFault) → r ≡ BatchCheck.Refused f → (n : ℕ) → n ≡ batch_number_of f → (n ≡ 41 → ⊥)
-        → ConvertPromise s out (record { result = Converted.Refused f; output = out })
-    convert_refused f e n is not-41 =
+    pub convert_refused : (f : BatchFault) → r ≡ Err (OpenError.Refused f) → (f ≡ BatchFault.BareMarker → ⊥)
+        → ConvertPromise s out (record { result = Err (ConvertError.Refused f); output = out })
+    convert_refused f e other =
         promised (refused (batch_number_of f)) _
-        (as_copied (refused (batch_number_of f)) (refused_judged f e) (λ w. not-41 (is ∙ same_refused w)))
+        (as_copied (refused (batch_number_of f)) (refused_judged f e) (λ w. other (only_bare f (same_refused w))))
         (record { answer = refl; output = refl })
       where
         number_of : Judgement → ℕ
@@ -238,17 +238,20 @@ module _ (s : List ℕ) (r : BatchCheck) (p : CheckPromise ControlMode.Keyed s r
         same_refused : {k l : ℕ} → ◌≡◌ {A = Judgement} (refused k) (refused l) → k ≡ l
         same_refused w = ap number_of w
 
-    module _ (b : RecordBatch) (k : ControlBatchOrRecords) (m n : ℕ) (e : r ≡ BatchCheck.Accepted b k m n) where
+    module _ (x : BatchFound) (e : r ≡ Ok x) where
+      abbrev n : ℕ
+      n = x.consumed
+
       pub consumed_within : n ≤ length s
       consumed_within =
-          let (a, j, same) = accepted_judged b k m n e in
+          let (a, j, same) = accepted_judged x e in
           let y = passed (way_of ControlMode.Keyed) s 0 0 a j in
           omega (arith, same, ap (λ (b : Accepted). b.consumed) y.is, y.all_there)
 
       pub convert_copied : (o : ConvertOutcome) → GivenBy (accepted (record { taken = length (take n s); given = take n s })) out o
           → ConvertPromise s out o
       convert_copied o g =
-          let (a, j, same) = accepted_judged b k m n e in
+          let (a, j, same) = accepted_judged x e in
           let long = length-take-le n s consumed_within in
           promised (accepted (record { taken = length (take n s); given = take n s })) o
           (as_copied (accepted a) j (λ w. refused_not_accepted (sym w))
@@ -256,5 +259,5 @@ module _ (s : List ℕ) (r : BatchCheck) (p : CheckPromise ControlMode.Keyed s r
           ∙ ap (λ (i : ℕ). accepted (record { taken = i; given = take n s })) (sym long))
           g
 
-  pub to_rekey : (f : BatchFault) → r ≡ BatchCheck.Refused f → (n : ℕ) → n ≡ batch_number_of f → n ≡ 41 → judge ControlMode.Keyed s ≡ refused 41
-  to_rekey f e n is at-41 = refused_judged f e ∙ ap refused (sym is ∙ at-41)
+  pub to_rekey : r ≡ Err (OpenError.Refused BatchFault.BareMarker) → judge ControlMode.Keyed s ≡ refused 41
+  to_rekey e = refused_judged BatchFault.BareMarker e

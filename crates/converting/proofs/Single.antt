@@ -1,7 +1,7 @@
 -- The promise admits a single answer: from what the answer says it can be made again, and the output is given.
 -- Assumes nothing.
 use Prim.Native.Nat.{ℕ}
-use mathlib.Core.Path.{◌≡◌, refl, sym, ◌∙◌, subst}
+use mathlib.Core.Path.{◌≡◌, refl, sym, ap, ◌∙◌, subst}
 use mathlib.Core.List.{List}
 use native.Mathlib.Omega.{arith}
 use borrow.Author.Tests.{ne_eqb}
@@ -12,7 +12,9 @@ use Rattle.numbers.proofs.Single.{single_value, single_view}
 use Rattle.opening.specs.declared.BatchFault.{BatchFault}
 use Rattle.opening.specs.Answers.{batch_number_of}
 use Rattle.opening.proofs.Single.{refusal, refusal_again}
-use Rattle.converting.specs.declared.Converted.{Converted}
+use Rattle.converting.specs.declared.Conversion.{Conversion}
+use Rattle.converting.specs.declared.ConvertError.{ConvertError}
+use Rattle.std.specs.Prelude.{Result, Ok, Err}
 use Rattle.converting.specs.Answers.{Answer, view_converted}
 use Rattle.converting.specs.Promises.{ConvertPromise}
 
@@ -29,21 +31,22 @@ not_short f e = let w : ◌≡◌ {A = ℕ} 13 24 = number_again f e in omega ar
 
 -- ---- the answer, made from what it says
 
-abbrev converted : Answer → Converted
+abbrev converted : Answer → Result Conversion ConvertError
 converted a =
-    let lacking : Converted = Converted.MoreBytes a.taken in
-    pick (eqb a.number 0) (Converted.Done a.taken a.given)
-    (pick (eqb a.number 24) Converted.ShortOutput (refusal lacking lacking Converted.Refused a.number))
+    let lacking : ConvertError = ConvertError.MoreBytes a.taken in
+    pick (eqb a.number 0) (Ok (record { taken = a.taken; given = a.given }))
+    (Err (pick (eqb a.number 24) ConvertError.ShortOutput (refusal lacking lacking ConvertError.Refused a.number)))
 
-converted_again : (r : Converted) → converted (view_converted r) ≡ r
-converted_again (Converted.Done taken given) = refl
-converted_again (Converted.MoreBytes n) = refl
-converted_again (Converted.Refused f) =
-    rw (ne_eqb (batch_number_of f) 0 (not_done f), ne_eqb (batch_number_of f) 24 (not_short f)) (refusal_again _ _ Converted.Refused f)
-converted_again Converted.ShortOutput = refl
+converted_again : (r : Result Conversion ConvertError) → converted (view_converted r) ≡ r
+converted_again (Ok x) = refl
+converted_again (Err (ConvertError.MoreBytes n)) = refl
+converted_again (Err (ConvertError.Refused f)) =
+    rw (ne_eqb (batch_number_of f) 0 (not_done f), ne_eqb (batch_number_of f) 24 (not_short f))
+    (ap Err (refusal_again _ _ ConvertError.Refused f))
+converted_again (Err ConvertError.ShortOutput) = refl
 
 -- answers that say the same are the same
-pub view_converted_injective : (r r' : Converted) → view_converted r ≡ view_converted r' → r ≡ r'
+pub view_converted_injective : (r r' : Result Conversion ConvertError) → view_converted r ≡ view_converted r' → r ≡ r'
 view_converted_injective r r' e = single_view view_converted converted converted_again (view_converted r') r r' e refl
 
 pub single_convert : (s out : List ℕ) → Single (ConvertPromise s out)

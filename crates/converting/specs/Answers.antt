@@ -1,9 +1,10 @@
 -- What each answer says, case by case: the number, and the values that it names.
-use Rattle.std.specs.Prelude.{ℕ, List, ◌++◌, leb, length, drop}
+use Rattle.std.specs.Prelude.{ℕ, List, ◌++◌, leb, length, drop, Result, Ok, Err}
 use Rattle.numbers.specs.Pick.{pick}
 use Rattle.opening.specs.Answers.{batch_number_of}
 use Rattle.opening.specs.Judgement.{Judged, more, refused, accepted}
-use Rattle.converting.specs.declared.Converted.{Converted}
+use Rattle.converting.specs.declared.Conversion as Code
+use Rattle.converting.specs.declared.ConvertError.{ConvertError}
 use Rattle.converting.specs.Conversion.{Conversion}
 
 -- 0 with the bytes taken and those given; 1 with the bytes needed; any other number alone. What is not named is 0.
@@ -21,11 +22,11 @@ wants n = record { number = 1; taken = n; given = 0 }
 abbrev pub refuses : ℕ → Answer
 refuses n = record { number = n; taken = 0; given = 0 }
 
-abbrev pub view_converted : Converted → Answer
-view_converted (Converted.Done taken given) = gives taken given
-view_converted (Converted.MoreBytes n) = wants n
-view_converted (Converted.Refused f) = refuses (batch_number_of f)
-view_converted Converted.ShortOutput = refuses 24
+abbrev pub view_converted : Result Code.Conversion ConvertError → Answer
+view_converted (Ok x) = gives x.taken x.given
+view_converted (Err (ConvertError.MoreBytes n)) = wants n
+view_converted (Err (ConvertError.Refused f)) = refuses (batch_number_of f)
+view_converted (Err ConvertError.ShortOutput) = refuses 24
 
 -- ---- what a conversion has answered, where the output has so many bytes, and what is then in it
 

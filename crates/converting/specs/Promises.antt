@@ -1,14 +1,15 @@
 -- What the public function promises of its result and of the output, for every input. Lent bytes are lent to be read:
 -- no function here can change them.
-use Rattle.std.specs.Prelude.{◌≡◌, ℕ, List, length}
+use Rattle.std.specs.Prelude.{◌≡◌, ℕ, List, length, Result}
 use Rattle.numbers.specs.Bytes.{Bytes}
-use Rattle.converting.specs.declared.Converted.{Converted}
+use Rattle.converting.specs.declared.Conversion.{Conversion}
+use Rattle.converting.specs.declared.ConvertError.{ConvertError}
 use Rattle.converting.specs.Conversion.{conversion_of}
 use Rattle.converting.specs.Answers.{view_converted, answer_of, output_of}
 
 -- the result, with the output at exit
 pub record ConvertOutcome : Type 0 where
-  pub result : Converted
+  pub result : Result Conversion ConvertError
   pub output : List ℕ
 
 -- convert, on bytes s and an output

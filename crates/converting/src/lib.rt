@@ -7,16 +7,17 @@ ghost use Rattle.layout.specs.Table.{fixed_part};
 ghost use Rattle.layout.specs.declared.ControlMode.{ControlMode};
 ghost use Rattle.opening.specs.Judgement.{refused, accepted, judge};
 ghost use Rattle.markers.specs.Markers.{view_marker};
+ghost use Rattle.converting.specs.declared.ConvertError.{ConvertError};
 ghost use Rattle.converting.specs.Conversion.{rekeyed, conversion_of};
 ghost use Rattle.converting.specs.Promises.{ConvertPromise};
 ghost use Rattle.converting.specs.Giving.{GivenBy, rekeyed_size, with_length, with_checksum};
 
-use batches::{BatchCheck, RecordBatch};
+use batches::RecordBatch;
 use crc32c::crc32c;
 use layout::{BatchFields, ControlMode};
-use markers::{ControlBatchRecord, ControlBatchRecordRead};
+use markers::ControlBatchRecord;
 use numbers::{Int32, Uint32, put};
-use opening::BatchFault;
+use opening::{BatchFault, OpenError};
 use primitives::Cursor;
 
 // The bytes of a whole control batch: in the form that is withdrawn, and as it is written.
@@ -27,74 +28,73 @@ const KEYED: usize = BatchFields::FIXED + 11;
 // The place of batchLength.
 const LENGTH: usize = 8;
 
-// The number of a control batch in the form that is withdrawn.
-const WITHDRAWN: u8 = 41;
-
-// How many bytes the batch has and how many are given for it; or how many bytes are needed, counted from its first; or
-// why it is refused; or that the output is too short.
+// How many bytes the batch has, and how many are given for it.
 #[derive(Clone, Copy)]
-pub enum Converted {
-    Done { taken: usize, given: usize },
+pub struct Conversion {
+    pub taken: usize,
+    pub given: usize,
+}
+
+// How many bytes are needed, counted from the first of the batch; or why it is refused; or that the output is too short.
+#[derive(Clone, Copy)]
+pub enum ConvertError {
     MoreBytes(usize),
     Refused(BatchFault),
     ShortOutput,
 }
 
+impl From<BatchFault> for ConvertError {
+    ghost from_gives = { λ f e. e ≡ ConvertError.Refused f };
+
+    fn from(f: BatchFault) -> ConvertError {
+        ConvertError::Refused(f)
+    }
+}
+
 // Writes what is given for the batch that the bytes begin with to the output's start. No byte of the output is touched
 // before all is known to be right and to have room.
-pub fn convert(bytes: &[u8], output: &mut [u8]) -> Converted
+pub fn convert(bytes: &[u8], output: &mut [u8]) -> Result<Conversion, ConvertError>
     ensures { ConvertPromise bytes.now output.old (record { result = result; output = output.new }) }
 {
     match RecordBatch::check(ControlMode::Keyed, bytes) {
-        BatchCheck::Accepted {
-            batch: _,
-            kind: _,
-            headers: _,
-            consumed,
-        } => copy(&bytes[..consumed], output),
-        BatchCheck::MoreBytes(n) => Converted::MoreBytes(n),
-        BatchCheck::Refused(f) => {
-            if f.number() == WITHDRAWN {
-                return rekey(bytes, output);
-            }
-            Converted::Refused(f)
-        }
+        Ok(found) => copy(&bytes[..found.consumed], output),
+        Err(OpenError::MoreBytes(n)) => Err(ConvertError::MoreBytes(n)),
+        Err(OpenError::Refused(f)) => match f {
+            BatchFault::BareMarker => rekey(bytes, output),
+            _ => Err(ConvertError::Refused(f)),
+        },
     }
 }
 
 // All bytes of a batch, as they stand.
-fn copy(batch: &[u8], output: &mut [u8]) -> Converted
+fn copy(batch: &[u8], output: &mut [u8]) -> Result<Conversion, ConvertError>
     ensures { GivenBy (accepted (record { taken = length batch.now; given = batch.now })) output.old (record { result = result; output = output.new }) }
 {
     let n = batch.len();
     if output.len() < n {
-        return Converted::ShortOutput;
+        return Err(ConvertError::ShortOutput);
     }
     put(batch, output, 0);
-    Converted::Done { taken: n, given: n }
+    Ok(Conversion { taken: n, given: n })
 }
 
 // A control batch whose marker stands alone. What has been judged is not refused when it is read again.
-fn rekey(bytes: &[u8], output: &mut [u8]) -> Converted
+fn rekey(bytes: &[u8], output: &mut [u8]) -> Result<Conversion, ConvertError>
     requires { Bytes bytes.now × (judge ControlMode.Keyed bytes.now ≡ refused 41) }
     ensures { GivenBy (conversion_of bytes.now) output.old (record { result = result; output = output.new }) }
 {
     if output.len() < KEYED {
-        return Converted::ShortOutput;
+        return Err(ConvertError::ShortOutput);
     }
     let fixed = Cursor {
         at: BatchFields::FIXED,
     };
-    match ControlBatchRecord::read_bare(&bytes[..BARE], fixed) {
-        ControlBatchRecordRead::Got(marker, _) => {
-            put_rekeyed(bytes, marker, output);
-            Converted::Done {
-                taken: BARE,
-                given: KEYED,
-            }
-        }
-        ControlBatchRecordRead::Refused(f) => Converted::Refused(f),
-    }
+    let (marker, _) = ControlBatchRecord::read_bare(&bytes[..BARE], fixed)?;
+    put_rekeyed(bytes, marker, output);
+    Ok(Conversion {
+        taken: BARE,
+        given: KEYED,
+    })
 }
 
 // The fixed fields as they stand and the marker as it is written; then their length and checksum over the old ones.

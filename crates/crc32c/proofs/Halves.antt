@@ -1,22 +1,24 @@
 -- A register in parts: the steps of the whole are the steps of each part alone, fewer for the parts that stand higher.
 -- So bytes are divided by their halves, words by their bytes, and eight bytes by two words. Assumes nothing.
-use Prim.Native.Nat.{ℕ, suc, ◌+◌, ◌-◌, ◌*◌, ◌/◌, ◌%◌, ◌^◌, ◌≤◌, ◌<◌}
-use native.Mathlib.Nat.{mod-lt, mul-mod_left, zero-lt-suc}
-use native.Mathlib.Numerals.{add-one}
+use Prim.Native.Nat.{ℕ, zero, suc, ◌+◌, ◌*◌, ◌/◌, ◌%◌, ◌^◌, ◌<◌}
+use native.Mathlib.Nat.{mod-lt, zero-lt-suc, zero-mul, suc-mul, add_comm}
 use native.Mathlib.Omega.{arith}
 use mathlib.Core.Path.{◌≡◌, refl, sym, ap, ap₂, ◌∙◌}
 use mathlib.Core.Bool.{Bool}
-use mathlib.Core.List.{List}
+use mathlib.Core.List.{List, [], ◌∷◌, ◌++◌}
 use lib.Bits.{bit_xor, xor_comm, xor_shifted}
+use Rattle.std.specs.List.{concat, fold}
+use Rattle.std.specs.Int.{sum_through, byte_worth}
+use Rattle.std.specs.Simd.{first_chunks}
 use lib.Dec.{eqb, eqb→eq, T}
-use lib.ListN.{length, get_or, take, drop, take-append-drop, length-drop, drop_of_length-le}
-use lib.Seq.{take_all, get_or-take, get_or-drop, drop-drop, length-take-le, drop-cons}
-use Rattle.crc32c.specs.Crc.{steps, over, castagnoli, number}
+use lib.ListN.{length, get_or, take, drop, take-append-drop}
+use lib.Seq.{take-add}
+use Rattle.crc32c.specs.Crc.{steps, over, castagnoli, number, number_of}
 use Rattle.crc32c.specs.Table.{IsTable}
-use Rattle.crc32c.proofs.Xor.{xor_assoc}
+use Rattle.crc32c.proofs.Xor.{xor_assoc, xor_split}
 use Rattle.crc32c.proofs.Division.{steps_linear, steps_shift, steps_add}
 use Rattle.crc32c.proofs.Joined.{over_joined}
-use Rattle.crc32c.proofs.Numbers.{over_number, number_same, number_sum, number_split}
+use Rattle.crc32c.proofs.Numbers.{over_number, number_sum}
 use Rattle.crc32c.proofs.Entries.{every, passed}
 
 -- ---- the table
@@ -25,8 +27,7 @@ abbrev right : ℕ → ℕ → Bool
 right k x = eqb x (steps castagnoli (4 * (k / 16 + 1)) (k % 16))
 
 pub is_table : (t : List ℕ) → T (every right 0 t) → length t ≡ 256 → IsTable t
-unfolding IsTable
-is_table t ok l k h = eqb→eq (get_or t k 0) (steps castagnoli (4 * (k / 16 + 1)) (k % 16)) (passed right t ok k (rw l h))
+is_table t ok l = record { entry = λ k h. eqb→eq (get_or t k 0) (steps castagnoli (4 * (k / 16 + 1)) (k % 16)) (passed right t ok k (rw l h)) }
 
 -- ---- parts
 
@@ -66,69 +67,60 @@ word_bytes p m w a b c d h ea eb ec ed =
     ap₂ bit_xor ea (two ∙ ap (λ (k : ℕ). steps p (8 * k) (w / 256)) (omega arith)) ∙ lowest p (m + 3) w
     ∙ ap (λ (k : ℕ). steps p (8 * k) w) (omega arith)
 
--- ---- bytes of a list
+-- ---- eight bytes as one number
 
 number_one : (f : ℕ → ℕ) → number f 1 ≡ f 0
 unfolding number
 number_one f = refl
 
--- four bytes, added up
-pub number_four : (f : ℕ → ℕ) → ((k : ℕ) → f k < 256) → f 0 + f 1 * 256 + f 2 * 65536 + f 3 * 16777216 ≡ number f 4
-number_four f h =
-    let a : number f 4 ≡ number (λ i. f (suc i)) 3 * 256 + f 0 = number_sum 3 f (h 0) in
-    let b : number (λ i. f (suc i)) 3 ≡ number (λ i. f (suc (suc i))) 2 * 256 + f 1 = number_sum 2 (λ i. f (suc i)) (h 1) in
-    let c : number (λ i. f (suc (suc i))) 2 ≡ number (λ i. f (suc (suc (suc i)))) 1 * 256 + f 2 = number_sum 1 (λ i. f (suc (suc i))) (h 2) in
-    let d : number (λ i. f (suc (suc (suc i)))) 1 ≡ f 3 = number_one (λ i. f (suc (suc (suc i)))) in
+pub eight_bytes : (f : ℕ → ℕ) → ((k : ℕ) → f k < 256) → sum_through (λ i. byte_worth i (f i)) 7 ≡ number f 8
+eight_bytes f h =
+    let a = number_sum 7 f (h 0) in
+    let b = number_sum 6 (λ i. f (suc i)) (h 1) in
+    let c = number_sum 5 (λ i. f (suc (suc i))) (h 2) in
+    let d = number_sum 4 (λ i. f (suc (suc (suc i)))) (h 3) in
+    let e = number_sum 3 (λ i. f (suc (suc (suc (suc i))))) (h 4) in
+    let j = number_sum 2 (λ i. f (suc (suc (suc (suc (suc i)))))) (h 5) in
+    let k = number_sum 1 (λ i. f (suc (suc (suc (suc (suc (suc i))))))) (h 6) in
+    let l = number_one (λ i. f (suc (suc (suc (suc (suc (suc (suc i)))))))) in
     omega arith
 
-pub eight_words : (p c : ℕ) (f : ℕ → ℕ)
-    → bit_xor (steps p 64 (bit_xor c (number f 4))) (steps p 32 (number (λ k. f (4 + k)) 4)) ≡ steps p 64 (bit_xor c (number f 8))
-eight_words p c f =
-    let low = number f 4 in
-    let high = number (λ k. f (4 + k)) 4 in
+pub eight_words : (p c x : ℕ)
+    → bit_xor (steps p 64 (bit_xor c (x % 2 ^ 32))) (steps p 32 (x / 2 ^ 32)) ≡ steps p 64 (bit_xor c x)
+eight_words p c x =
+    let low = x % 2 ^ 32 in
+    let high = x / 2 ^ 32 in
     sym
-    (ap (λ (x : ℕ). steps p 64 (bit_xor c x)) (number_split 4 4 f ∙ xor_comm (high * 2 ^ 32) low)
+    (ap (λ (y : ℕ). steps p 64 (bit_xor c y)) (sym (xor_split x 32) ∙ xor_comm (high * 2 ^ 32) low)
     ∙ ap (steps p 64) (sym (xor_assoc c low (high * 2 ^ 32)) ∙ xor_comm (bit_xor c low) (high * 2 ^ 32))
     ∙ steps_parts p 32 32 high (bit_xor c low))
 
--- ---- turns of the loops, and their end: what is left of the bytes goes on to the same register
+-- ---- bytes one by one, and eight at a time
 
-pub turn_of_eight : (p c d x : ℕ) (s : List ℕ) (i : ℕ) → i < length s → (length s - i) % 8 ≡ 0
-    → d ≡ steps p 64 (bit_xor c (number (λ k. get_or s (i + k) 0) 8)) → over p c (drop i s) ≡ x → over p d (drop (i + 8) s) ≡ x
-turn_of_eight p c d x s i h g e f =
-    let r = drop i s in
-    let y = take 8 r in
-    let l : length y ≡ 8 = length-take-le 8 r (simp length-drop (omega arith)) in
-    let here : over p c y ≡ d =
-    over_number p c y
-    ∙ ap (λ (n : ℕ). steps p (8 * n) (bit_xor c (number (λ k. get_or y k 0) n))) l
-    ∙ ap (λ (n : ℕ). steps p 64 (bit_xor c n))
-    (number_same 8 (λ k. get_or y k 0) (λ k. get_or s (i + k) 0) (λ k q. get_or-take 8 r k 0 q ∙ get_or-drop i s k 0))
-    ∙ sym e in
-    sym (ap (over p c) (sym (take-append-drop 8 r)) ∙ over_joined p c y (drop 8 r) ∙ ap₂ (over p) here (drop-drop 8 i s)) ∙ f
-
-pub turn_of_one : (p c d x : ℕ) (s : List ℕ) (i : ℕ) → i < length s → d ≡ steps p 8 (bit_xor c (get_or s i 0)) → over p c (drop i s) ≡ x
-    → over p d (drop (i + 1) s) ≡ x
+pub by_ones : (p c : ℕ) (s : List ℕ) → fold (λ c b. steps p 8 (bit_xor c b)) c s ≡ over p c s
 unfolding over
-turn_of_one p c d x s i h e f = rw (e, add-one) (ap (over p c) (sym (drop-cons s i 0 h)) ∙ f)
+by_ones p c [] = refl
+by_ones p c (b ∷ s) = by_ones p (steps p 8 (bit_xor c b)) s
 
-pub ended : (p c x : ℕ) (s : List ℕ) (i : ℕ) → length s ≤ i → over p c (drop i s) ≡ x → c ≡ x
+over_eight : (p c : ℕ) (y : List ℕ) → length y ≡ 8 → steps p 64 (bit_xor c (number_of y)) ≡ over p c y
+over_eight p c y l = sym (over_number p c y ∙ ap (λ (n : ℕ). steps p (8 * n) (bit_xor c (number_of y))) l)
+
+pub by_eights : (p c : ℕ) (ys : List (List ℕ)) → ((k : ℕ) → k < length ys → length (get_or ys k []) ≡ 8)
+    → fold (λ c y. steps p 64 (bit_xor c (number_of y))) c ys ≡ over p c (concat ys)
 unfolding over
-ended p c x s i h e = ap (over p c) (sym (drop_of_length-le s h)) ∙ e
+by_eights p c [] h = refl
+by_eights p c (y ∷ ys) h =
+    let d = steps p 64 (bit_xor c (number_of y)) in
+    by_eights p d ys (λ k l. h (suc k) (omega arith))
+    ∙ ap (λ (x : ℕ). over p x (concat ys)) (over_eight p c y (h 0 (omega arith)))
+    ∙ sym (over_joined p c y (concat ys))
 
--- ---- eights first, and what is left after them
+pub chunks_joined : (n k : ℕ) (s : List ℕ) → concat (first_chunks n k s) ≡ take (k * n) s
+chunks_joined n zero s = rw zero-mul
+chunks_joined n (suc k) s =
+    ap (λ (t : List ℕ). take n s ++ t) (chunks_joined n k (drop n s)) ∙ sym (take-add n (k * n) s) ∙ ap (λ (m : ℕ). take m s) (sym (suc-mul k n ∙ add_comm (k * n) n))
 
-most : (n : ℕ) → n / 8 * 8 ≤ n
-most n = omega arith
-
-pub eights_length : (s : List ℕ) → length s / 8 * 8 ≡ length (take (length s / 8 * 8) s)
-eights_length s = sym (length-take-le (length s / 8 * 8) s (most (length s)))
-
-pub eights_whole : (s : List ℕ) → length (take (length s / 8 * 8) s) % 8 ≡ 0
-eights_whole s = rw (← eights_length s) (mul-mod_left (length s / 8) 8)
-
-pub parts_joined : (p c d r : ℕ) (s : List ℕ) (n : ℕ) → d ≡ over p c (take n s) → r ≡ over p d (take (length s - n) (drop n s))
-    → r ≡ over p c s
-parts_joined p c d r s n e f =
-    f ∙ ap₂ (over p) e (take_all (length s - n) (drop n s) (simp length-drop (omega arith)))
-    ∙ sym (over_joined p c (take n s) (drop n s)) ∙ ap (over p c) (take-append-drop n s)
+pub chunks_over : (p c d r n k : ℕ) (s : List ℕ) → d ≡ over p c (concat (first_chunks n k s)) → r ≡ over p d (drop (k * n) s) → r ≡ over p c s
+chunks_over p c d r n k s e f =
+    f ∙ ap (λ (x : ℕ). over p x (drop (k * n) s)) (e ∙ ap (over p c) (chunks_joined n k s))
+    ∙ sym (over_joined p c (take (k * n) s) (drop (k * n) s)) ∙ ap (over p c) (take-append-drop (k * n) s)

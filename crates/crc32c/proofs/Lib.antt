@@ -1,3 +1,4 @@
+mod Copied
 pub mod Division
 mod Entries
 pub mod Examples
@@ -9,5 +10,4 @@ mod Kept
 mod Multiple
 pub mod Numbers
 pub mod Single
-mod Stored
 pub mod Xor

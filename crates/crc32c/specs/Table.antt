@@ -3,5 +3,5 @@
 use Rattle.std.specs.Prelude.{ℕ, ◌+◌, ◌*◌, ◌/◌, ◌%◌, ◌<◌, ◌≡◌, List, get_or}
 use Rattle.crc32c.specs.Crc.{steps, castagnoli}
 
-unfoldable pub IsTable : List ℕ → Type 0
-IsTable t = (k : ℕ) → k < 256 → get_or t k 0 ≡ steps castagnoli (4 * (k / 16 + 1)) (k % 16)
+pub record IsTable (t : List ℕ) : Type 0 where
+  pub entry : (k : ℕ) → k < 256 → get_or t k 0 ≡ steps castagnoli (4 * (k / 16 + 1)) (k % 16)

@@ -1,7 +1,8 @@
 // Division by a table of half bytes, eight bytes a turn.
-ghost use Rattle.std.specs.Prelude.{◌≡◌, ◌+◌, ◌*◌, ◌%◌, ◌≤◌, length, get_or};
+ghost use Rattle.std.specs.Prelude.{◌≡◌, ◌+◌, ◌*◌, ◌%◌, ◌≤◌};
+ghost use Rattle.std.specs.List.{concat};
 ghost use Rattle.std.specs.Int.Bits.{bit_xor};
-ghost use Rattle.crc32c.specs.Crc.{steps, over, castagnoli, number};
+ghost use Rattle.crc32c.specs.Crc.{steps, over, castagnoli, number_of};
 ghost use Rattle.crc32c.specs.Table.{IsTable};
 
 // Row r of 16 entries: what 4 * (r + 1) steps make of 0 to 15.
@@ -44,90 +45,67 @@ const TABLE: [u32; 256] = [
 pub(crate) fn divide(register: u32, s: &[u8]) -> u32
     ensures { result ≡ over castagnoli register s.now }
 {
-    divide_by(&TABLE, register, s)
+    Table { entries: &TABLE }.divide(register, s)
 }
 
-fn divide_by(t: &[u32; 256], register: u32, s: &[u8]) -> u32
-    requires { IsTable t.now }
-    ensures { result ≡ over castagnoli register s.now }
-{
-    let n = s.len() / 8 * 8;
-    let c = by_eights(t, register, &s[..n]);
-    by_ones(t, c, &s[n..])
+#[derive(Clone, Copy)]
+struct Table<'a> {
+    entries: &'a [u32; 256],
+    ghost right: { IsTable entries.now },
 }
 
-fn by_eights(t: &[u32; 256], register: u32, s: &[u8]) -> u32
-    requires s_len { length s.now % 8 ≡ 0 }
-    requires table { IsTable t.now }
-    ensures { result ≡ over castagnoli register s.now }
-{
-    let mut c = register;
-    let mut i = 0;
-    while i < s.len() {
-        c = eight(t, c, s, i);
-        i += 8;
+impl Table<'_> {
+    fn divide(self, register: u32, s: &[u8]) -> u32
+        ensures { result ≡ over castagnoli register s.now }
+    {
+        let (eights, rest) = s.as_chunks();
+        self.by_ones(self.by_eights(register, eights), rest)
     }
-    c
-}
 
-fn by_ones(t: &[u32; 256], register: u32, s: &[u8]) -> u32
-    requires { IsTable t.now }
-    ensures { result ≡ over castagnoli register s.now }
-{
-    let mut c = register;
-    let mut i = 0;
-    while i < s.len() {
-        c = one(t, c, s[i]);
-        i += 1;
+    fn by_eights(self, register: u32, eights: &[[u8; 8]]) -> u32
+        ensures { result ≡ over castagnoli register (concat eights.now) }
+    {
+        eights
+            .iter()
+            .fold(register, |c, &bytes| self.eight(c, bytes))
     }
-    c
-}
 
-// Eight bytes from i: the register is added to the first four, which go four bytes further than the others.
-fn eight(t: &[u32; 256], c: u32, s: &[u8], i: usize) -> u32
-    requires i_in_bounds { i + 8 ≤ length s.now }
-    requires table { IsTable t.now }
-    ensures { result ≡ steps castagnoli 64 (bit_xor c (number (λ k. get_or s.now (i + k) 0) 8)) }
-{
-    word(t, 4, c ^ load(s, i)) ^ word(t, 0, load(s, i + 4))
-}
+    fn by_ones(self, register: u32, s: &[u8]) -> u32
+        ensures { result ≡ over castagnoli register s.now }
+    {
+        s.iter().fold(register, |c, &b| self.one(c, b))
+    }
 
-fn one(t: &[u32; 256], c: u32, b: u8) -> u32
-    requires { IsTable t.now }
-    ensures { result ≡ steps castagnoli 8 (bit_xor c b) }
-{
-    byte(t, 0, c ^ (b as u32)) ^ (c / 256)
-}
+    // The register is added to the first four bytes, which go four bytes further than the others.
+    fn eight(self, c: u32, bytes: [u8; 8]) -> u32
+        ensures { result ≡ steps castagnoli 64 (bit_xor c (number_of bytes)) }
+    {
+        let x = u64::from_le_bytes(bytes);
+        self.word(4, c ^ (x % 0x1_0000_0000) as u32) ^ self.word(0, (x / 0x1_0000_0000) as u32)
+    }
 
-// Four bytes from i as one number, the first the lowest.
-fn load(s: &[u8], i: usize) -> u32
-    requires { i + 4 ≤ length s.now }
-    ensures { result ≡ number (λ k. get_or s.now (i + k) 0) 4 }
-{
-    join(s[i], s[i + 1], s[i + 2], s[i + 3])
-}
+    fn one(self, c: u32, b: u8) -> u32
+        ensures { result ≡ steps castagnoli 8 (bit_xor c b) }
+    {
+        self.byte(0, c ^ b as u32) ^ (c / 256)
+    }
 
-fn join(a: u8, b: u8, c: u8, d: u8) -> u32
-    ensures { result ≡ a + b * 256 + c * 65536 + d * 16777216 }
-{
-    (a as u32) + (b as u32) * 256 + (c as u32) * 65536 + (d as u32) * 16777216
-}
+    // What the steps of m + 4 bytes make of four bytes.
+    fn word(self, m: usize, w: u32) -> u32
+        requires { m ≤ 4 }
+        ensures { result ≡ steps castagnoli (8 * (m + 4)) w }
+    {
+        self.byte(m + 3, w)
+            ^ (self.byte(m + 2, w / 256)
+                ^ (self.byte(m + 1, w / 65536) ^ self.byte(m, w / 16777216)))
+    }
 
-// What the steps of m + 4 bytes make of four bytes.
-fn word(t: &[u32; 256], m: usize, w: u32) -> u32
-    requires m_bound { m ≤ 4 }
-    requires table { IsTable t.now }
-    ensures { result ≡ steps castagnoli (8 * (m + 4)) w }
-{
-    byte(t, m + 3, w)
-        ^ (byte(t, m + 2, w / 256) ^ (byte(t, m + 1, w / 65536) ^ byte(t, m, w / 16777216)))
-}
-
-// What the steps of m + 1 bytes make of the lowest byte of x.
-fn byte(t: &[u32; 256], m: usize, x: u32) -> u32
-    requires m_bound { m ≤ 7 }
-    requires table { IsTable t.now }
-    ensures { result ≡ steps castagnoli (8 * (m + 1)) (x % 256) }
-{
-    t[32 * m + 16 + (x % 16) as usize] ^ t[32 * m + (x / 16 % 16) as usize]
+    // What the steps of m + 1 bytes make of the lowest byte of x.
+    fn byte(self, m: usize, x: u32) -> u32
+        requires { m ≤ 7 }
+        ensures { result ≡ steps castagnoli (8 * (m + 1)) (x % 256) }
+    {
+        self.entries[32 * m + 16 + (x % 16) as usize]
+            ^ self.entries[32 * m + (x / 16 % 16) as usize]
+    }
 }

@@ -1,7 +1,6 @@
 -- What is put into an output, field after field: the fixed fields of a batch. Assumes nothing.
-use Prim.Native.Nat.{ℕ, ◌+◌, ◌*◌}
+use Prim.Native.Nat.{ℕ, ◌+◌}
 use mathlib.Core.Path.{◌≡◌, sym, ap, ◌∙◌}
-use mathlib.Core.Bool.{Bool}
 use mathlib.Core.List.{List, [], ◌∷◌, ◌++◌, append-nil, append_assoc}
 use native.Mathlib.Omega.{arith}
 use lib.IntN.{ℤ, pos}
@@ -9,7 +8,7 @@ use lib.ListN.{length, take, drop, length-append}
 use lib.Seq.{take_all, take_at, drop_at}
 use mir.Syntax.{Width, w16, w32, w64}
 use mir.Val.{SFits, to_z, of_z}
-use mir.ValLaws.{to_z_pos, to_z-of_z}
+use mir.ValLaws.{to_z-of_z}
 use Rattle.numbers.specs.Format.{big_endian}
 use Rattle.numbers.specs.Pen.{Pen, pen, emit}
 use Rattle.numbers.specs.Concat.{concat}
@@ -18,19 +17,9 @@ use Rattle.numbers.proofs.Pens.{emit_emit, emit_inside, all_put}
 use Rattle.crc32c.specs.Crc.{continued, castagnoli, crc32c}
 use Rattle.crc32c.proofs.Joined.{checksum_joined}
 use Rattle.layout.specs.Table.{fixed_checked, fixed_part}
-use Rattle.layout.specs.Batch.{TimestampType, Fields}
-use Rattle.layout.specs.Format.{timestamp_bit, bit}
+use Rattle.layout.specs.Batch.{Fields}
 use Rattle.layout.specs.Fixed.{signed, frame_bytes, times_bytes, producer_bytes, checked_part, fixed_bytes, fixed_before}
 use Rattle.layout.specs.Statements.{FixedLength}
-use Rattle.layout.proofs.Flags.{timestamp_small, bit_small}
-
--- ---- the attributes
-
-pub attributes_made : (t : TimestampType) (x c : Bool) (i j k : ℕ) → i ≡ timestamp_bit t → j ≡ bit x → k ≡ bit c
-    → to_z w16 (8 * i + 16 * j + 32 * k) ≡ pos (8 * timestamp_bit t + 16 * bit x + 32 * bit c)
-attributes_made t x c i j k e f g =
-    to_z_pos w16 (8 * i + 16 * j + 32 * k) (omega (arith, timestamp_small t, bit_small x, bit_small c))
-    ∙ (λ n. pos (8 * e n + 16 * f n + 32 * g n))
 
 -- ---- one after the other
 

@@ -4,13 +4,14 @@ use mathlib.Core.Path.{◌≡◌, refl, ap}
 use mathlib.Core.Bool.{Bool}
 use mathlib.Core.List.{List}
 use mathlib.Core.Option.{Option, none, some}
+use Rattle.std.proofs.Common as std
+use Rattle.std.proofs.Common.{Some, None}
 use lib.IntN.{ℤ}
 use Rattle.numbers.specs.declared.Int16.{Int16}
 use Rattle.numbers.specs.Single.{Single}
 use Rattle.numbers.proofs.Single.{single_value, single_view}
 use Rattle.layout.specs.declared.RecordBatchTimestampType.{RecordBatchTimestampType}
 use Rattle.layout.specs.declared.BatchFields.{BatchFields}
-use Rattle.layout.specs.declared.RecordTime.{RecordTime}
 use Rattle.layout.specs.Batch.{TimestampType, create_time, log_append_time, Fields}
 use Rattle.layout.specs.Fixed.{view_type, view_batch_fields}
 use Rattle.layout.specs.Time.{view_time}
@@ -19,13 +20,13 @@ use Rattle.layout.specs.Promises.{TotalSizePromise, RecordTimePromise, Attribute
 pub single_total_size : (n : ℤ) → Single (TotalSizePromise n)
 single_total_size n = single_value _
 
-abbrev pub time : Option ℤ → RecordTime
-time (some t) = RecordTime.Time t
-time none = RecordTime.NoTime
+abbrev pub time : Option ℤ → std.Option ℤ
+time (some t) = Some t
+time none = None
 
-pub time_again : (r : RecordTime) → time (view_time r) ≡ r
-time_again (RecordTime.Time t) = refl
-time_again RecordTime.NoTime = refl
+pub time_again : (r : std.Option ℤ) → time (view_time r) ≡ r
+time_again (Some t) = refl
+time_again None = refl
 
 pub single_record_time : (x : BatchFields) (delta : ℤ) → Single (RecordTimePromise x delta)
 single_record_time x delta = single_view view_time time time_again _

@@ -1,9 +1,8 @@
 -- What each public function promises of its result, for every input. What is lent is lent to be read: no function here
 -- can change it.
-use Rattle.std.specs.Prelude.{ℕ, ◌≡◌, Bool, List, ℤ, pos, ◌+ℤ◌}
+use Rattle.std.specs.Prelude.{ℕ, ◌≡◌, Bool, List, Option, ℤ, pos, ◌+ℤ◌}
 use Rattle.numbers.specs.declared.Int16.{Int16}
 use Rattle.layout.specs.declared.BatchFields.{BatchFields}
-use Rattle.layout.specs.declared.RecordTime.{RecordTime}
 use Rattle.layout.specs.Table.{uncounted}
 use Rattle.layout.specs.Time.{record_time, view_time}
 use Rattle.layout.specs.Format.{bit, attributes_for}
@@ -14,7 +13,7 @@ abbrev pub TotalSizePromise : ℤ → ℤ → Type 0
 TotalSizePromise batch_length r = r ≡ pos uncounted +ℤ batch_length
 
 -- BatchFields::record_time
-abbrev pub RecordTimePromise : BatchFields → ℤ → RecordTime → Type 0
+abbrev pub RecordTimePromise : BatchFields → ℤ → Option ℤ → Type 0
 RecordTimePromise x delta r = view_time r ≡ record_time (view_batch_fields x) delta
 
 -- BatchFields::attributes, of a batch that is a control batch, or is not

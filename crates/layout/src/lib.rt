@@ -2,18 +2,16 @@
 // 0.6.0.
 #![tactic(auto)]
 
-ghost use Rattle.std.specs.Prelude.{◌≡◌, ◌+ℤ◌};
-ghost use Rattle.numbers.specs.Format.{big_endian, in_bits};
+ghost use Rattle.std.specs.Prelude.{◌≡◌};
 ghost use Rattle.numbers.specs.Pen.{pen, emit};
-ghost use Rattle.layout.specs.Format.{timestamp_bit, bit};
-ghost use Rattle.layout.specs.Fixed.{view_type, view_batch_fields, signed, frame_bytes, times_bytes, producer_bytes, fixed_bytes};
+ghost use Rattle.layout.specs.Fixed.{view_batch_fields, frame_bytes, times_bytes, producer_bytes, fixed_bytes};
 ghost use Rattle.layout.specs.Promises.{TotalSizePromise, RecordTimePromise, AttributesPromise, FixedBeforePromise};
 
 use crc32c::{crc32c, update};
 use numbers::{Int8, Int16, Int32, Int64, Uint32, put};
 
 // Whose time the records have.
-#[derive(Clone, Copy)]
+#[derive(Clone, Copy, Debug, PartialEq, Eq)]
 pub enum RecordBatchTimestampType {
     CreateTime,
     LogAppendTime,
@@ -21,7 +19,7 @@ pub enum RecordBatchTimestampType {
 
 // Which control batches there are: none, or those whose marker is in the key of a record, as brokers write it. Bare has
 // its name from the form that is withdrawn.
-#[derive(Clone, Copy)]
+#[derive(Clone, Copy, Debug, PartialEq, Eq)]
 pub enum ControlMode {
     Bare,
     Keyed,
@@ -53,13 +51,6 @@ pub struct BatchFields {
     pub producer: Producer,
 }
 
-// The time of a record, or that there is none.
-#[derive(Clone, Copy)]
-pub enum RecordTime {
-    Time(i64),
-    NoTime,
-}
-
 impl BatchFields {
     // What stands before batchLength begins to count.
     pub const UNCOUNTED: usize = 12;
@@ -85,26 +76,20 @@ impl BatchFields {
         BatchFields::UNCOUNTED as i64 + batch_length as i64
     }
 
-    // The time of a record with this delta.
-    pub fn record_time(self, delta: i64) -> RecordTime
+    // The time of a record with this delta, or that there is none.
+    pub fn record_time(self, delta: i64) -> Option<i64>
         ensures { RecordTimePromise self delta result }
     {
-        let times = self.times;
-        let first = times.first_timestamp;
-        if !sum_fits(first, delta) {
-            return RecordTime::NoTime;
-        }
-        RecordTime::Time(first + delta)
+        self.times.first_timestamp.checked_add(delta)
     }
 
     // The attributes, in the one place where they are put together. The codec is 0, and so are the bits above bit 5.
     pub fn attributes(self, is_control: bool) -> Int16
         ensures { AttributesPromise self is_control result }
     {
-        let timestamp_type = self.timestamp_type;
-        let timestamp = timestamp_bit(timestamp_type);
-        let transactional = flag(self.is_transactional);
-        let control = flag(is_control);
+        let timestamp = self.timestamp_type as u16;
+        let transactional = u16::from(self.is_transactional);
+        let control = u16::from(is_control);
         Int16((8 * timestamp + 16 * transactional + 32 * control) as i16)
     }
 
@@ -120,8 +105,8 @@ impl BatchFields {
     {
         let mut bytes = self.fixed(batch_length, Uint32(0), attributes, count);
         let checked = crc32c(&bytes[BatchFields::ATTRIBUTES..BatchFields::FIXED]);
-        let crc = update(checked, body);
-        put_uint32(Uint32(crc), &mut bytes, BatchFields::THROUGH_MAGIC);
+        let crc = Uint32(update(checked, body));
+        put(&crc.to_be_bytes(), &mut bytes, BatchFields::THROUGH_MAGIC);
         bytes
     }
 
@@ -140,95 +125,46 @@ impl BatchFields {
     fn put_frame(self, batch_length: Int32, crc: Uint32, output: &mut [u8], at: usize) -> usize
         ensures { pen result output.new ≡ emit (frame_bytes (view_batch_fields self) batch_length.0 crc.0) (pen at output.old) }
     {
-        let at_length = put_int64(Int64(self.base_offset), output, at);
-        let at_epoch = put_int32(batch_length, output, at_length);
-        let at_magic = put_int32(Int32(self.partition_leader_epoch), output, at_epoch);
-        let at_crc = put_int8(Int8(BatchFields::MAGIC), output, at_magic);
-        put_uint32(crc, output, at_crc)
+        let at_length = put(&Int64(self.base_offset).to_be_bytes(), output, at);
+        let at_epoch = put(&batch_length.to_be_bytes(), output, at_length);
+        let at_magic = put(
+            &Int32(self.partition_leader_epoch).to_be_bytes(),
+            output,
+            at_epoch,
+        );
+        let at_crc = put(&Int8(BatchFields::MAGIC).to_be_bytes(), output, at_magic);
+        put(&crc.to_be_bytes(), output, at_crc)
     }
 
     fn put_times(self, attributes: Int16, output: &mut [u8], at: usize) -> usize
         ensures { pen result output.new ≡ emit (times_bytes (view_batch_fields self) attributes.0) (pen at output.old) }
     {
         let times = self.times;
-        let at_delta = put_int16(attributes, output, at);
-        let at_first = put_int32(Int32(times.last_offset_delta), output, at_delta);
-        let at_max = put_int64(Int64(times.first_timestamp), output, at_first);
-        put_int64(Int64(times.max_timestamp), output, at_max)
+        let at_delta = put(&attributes.to_be_bytes(), output, at);
+        let at_first = put(
+            &Int32(times.last_offset_delta).to_be_bytes(),
+            output,
+            at_delta,
+        );
+        let at_max = put(
+            &Int64(times.first_timestamp).to_be_bytes(),
+            output,
+            at_first,
+        );
+        put(&Int64(times.max_timestamp).to_be_bytes(), output, at_max)
     }
 
     fn put_producer(self, count: Int32, output: &mut [u8], at: usize) -> usize
         ensures { pen result output.new ≡ emit (producer_bytes (view_batch_fields self) count.0) (pen at output.old) }
     {
         let producer = self.producer;
-        let at_epoch = put_int64(Int64(producer.id), output, at);
-        let at_sequence = put_int16(Int16(producer.epoch), output, at_epoch);
-        let at_count = put_int32(Int32(producer.base_sequence), output, at_sequence);
-        put_int32(count, output, at_count)
+        let at_epoch = put(&Int64(producer.id).to_be_bytes(), output, at);
+        let at_sequence = put(&Int16(producer.epoch).to_be_bytes(), output, at_epoch);
+        let at_count = put(
+            &Int32(producer.base_sequence).to_be_bytes(),
+            output,
+            at_sequence,
+        );
+        put(&count.to_be_bytes(), output, at_count)
     }
-}
-
-// The largest and the smallest signed number of 64 bits.
-const LARGEST: i64 = 0x7FFF_FFFF_FFFF_FFFF;
-
-const SMALLEST: i64 = -0x8000_0000_0000_0000;
-
-// Whether the sum is a signed number of 64 bits.
-fn sum_fits(a: i64, b: i64) -> bool
-    ensures { result ≡ in_bits 64 (a +ℤ b) }
-{
-    if 0 <= b {
-        return a <= LARGEST - b;
-    }
-    SMALLEST - b <= a
-}
-
-fn timestamp_bit(t: RecordBatchTimestampType) -> u16
-    ensures { result ≡ timestamp_bit (view_type t) }
-{
-    match t {
-        RecordBatchTimestampType::CreateTime => 0,
-        RecordBatchTimestampType::LogAppendTime => 1,
-    }
-}
-
-fn flag(set: bool) -> u16
-    ensures { result ≡ bit set }
-{
-    if set { 1 } else { 0 }
-}
-
-fn put_int8(n: Int8, output: &mut [u8], at: usize) -> usize
-    ensures { pen result output.new ≡ emit (signed 1 n.0) (pen at output.old) }
-{
-    let bytes = n.to_be_bytes();
-    put(&bytes, output, at)
-}
-
-fn put_int16(n: Int16, output: &mut [u8], at: usize) -> usize
-    ensures { pen result output.new ≡ emit (signed 2 n.0) (pen at output.old) }
-{
-    let bytes = n.to_be_bytes();
-    put(&bytes, output, at)
-}
-
-fn put_int32(n: Int32, output: &mut [u8], at: usize) -> usize
-    ensures { pen result output.new ≡ emit (signed 4 n.0) (pen at output.old) }
-{
-    let bytes = n.to_be_bytes();
-    put(&bytes, output, at)
-}
-
-fn put_int64(n: Int64, output: &mut [u8], at: usize) -> usize
-    ensures { pen result output.new ≡ emit (signed 8 n.0) (pen at output.old) }
-{
-    let bytes = n.to_be_bytes();
-    put(&bytes, output, at)
-}
-
-fn put_uint32(n: Uint32, output: &mut [u8], at: usize) -> usize
-    ensures { pen result output.new ≡ emit (big_endian 4 n.0) (pen at output.old) }
-{
-    let bytes = n.to_be_bytes();
-    put(&bytes, output, at)
 }

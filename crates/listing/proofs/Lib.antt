@@ -4,6 +4,7 @@ mod Entries
 mod Lengths
 mod Lines
 pub mod Listed
+mod Signed
 pub mod Single
 pub mod Turns
 pub mod WorkedLines

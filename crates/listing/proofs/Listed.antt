@@ -8,19 +8,16 @@ use native.Mathlib.Omega.{arith}
 use lib.Dec.{ltb}
 use lib.ListN.{length, drop, length-append}
 use lib.Seq.{take-append_seam}
+use Rattle.std.specs.Prelude.{Some, None}
 use Rattle.records.specs.Rows.{Tables}
 use Rattle.opening.specs.Judgement.{judge}
 use Rattle.batches.specs.Answers.{Rooms, rooms_of, tables_of}
-use Rattle.listing.specs.declared.Next.{Next}
 use Rattle.listing.specs.declared.Entry.{Entry}
 use Rattle.listing.specs.Listing.{Turn, line, last, most, listed_mode, first_turn, turn_at, and_on, lines_from, listing}
 use Rattle.listing.specs.Answers.{in_line, entry_of}
 use Rattle.listing.specs.Promises.{ListOutcome}
 use Rattle.listing.specs.Statements.{shown_line, text_of, Follow, done, goes_on, Listed, Follows, ProgramRooms, InUse, FirstInUse, AtInUse, Forward, TurnsEnough}
 use Rattle.listing.proofs.Turns.{turn_forward}
-
-at_not_done : {X : Type 0} {place : ℕ} → Next.At place ≡ Next.Done → X
-at_not_done e = let z : ◌≡◌ {A = ℕ} 0 1 = cc in absurd (omega arith)
 
 shown_in : (text : List ℕ) → shown_line (in_line text) ≡ text
 shown_in text = take-append_seam text _
@@ -37,9 +34,9 @@ first_in_use s x e = in_use (first_turn s) x e
 pub at_in_use : AtInUse
 at_in_use s place t o e = in_use (turn_at (rooms_of t) s place) o.result e.result
 
-goes_to : (turn : Turn) (x : Entry) (place : ℕ) → x ≡ entry_of turn → x.next ≡ Next.At place → (text : List ℕ) × (turn ≡ line text place)
+goes_to : (turn : Turn) (x : Entry) (place : ℕ) → x ≡ entry_of turn → x.next ≡ Some place → (text : List ℕ) × (turn ≡ line text place)
 goes_to (line text next) x place e f = let w : next ≡ place = cc in (text, ap (line text) w)
-goes_to (last text) x place e f = at_not_done (sym f ∙ ap (λ (y : Entry). y.next) e)
+goes_to (last text) x place e f = let w : Some place ≡ None = sym f ∙ ap (λ (y : Entry). y.next) e in cc
 
 pub forward : Forward
 forward s place t o next e f =
@@ -63,9 +60,9 @@ module _ (rooms : Rooms) (s : List ℕ) where
   followed : (k : ℕ) (turn : Turn) → Enough k turn → (x : Entry) (rest : List Entry) → x ≡ entry_of turn → Follow s rooms x rest
       → text_of (x ∷ rest) ≡ and_on turn (lines_from k rooms s)
   unfolding text_of lines_from
-  followed k (line text next) n x _ e (done f) = at_not_done (sym (ap (λ (y : Entry). y.next) e) ∙ f)
+  followed k (line text next) n x _ e (done f) = let w : Some next ≡ None = sym (ap (λ (y : Entry). y.next) e) ∙ f in cc
   followed k (last text) n x _ e (done f) = append-nil _ ∙ ap (λ (y : Entry). shown_line y.line) e ∙ shown_in text
-  followed k (last text) n x _ e (goes_on f r p y) = at_not_done (sym f ∙ ap (λ (y : Entry). y.next) e)
+  followed k (last text) n x _ e (goes_on {place = place} f r p y) = let w : Some place ≡ None = sym f ∙ ap (λ (y : Entry). y.next) e in cc
   followed zero (line text next) n x _ e (goes_on f r p y) = absurd (omega arith)
   followed (suc k) (line text next) n x _ e (goes_on {place = place} {o = o} {rest = rest} f r p y) =
       let a : place ≡ next = cc in

@@ -10,10 +10,12 @@ use native.Mathlib.Decide.{dec_le}
 use borrow.Author.Tests.{lt-ltb, le-ltb, le-leb, lt-leb}
 use borrow.Author.Rules.{part_to_end}
 use lib.ListN.{length, take, drop, length-drop, drop_of_length-le}
+use Rattle.std.specs.Prelude.{Result, Ok, Err}
 use Rattle.records.specs.Rows.{Tables}
 use Rattle.layout.specs.Batch.{Fields}
 use Rattle.opening.specs.Judgement.{more, refused, accepted, Accepted, Judgement, total_at, judge_with, way_of, judge}
-use Rattle.batches.specs.declared.BatchRead.{BatchRead}
+use Rattle.batches.specs.declared.BatchFound.{BatchFound}
+use Rattle.batches.specs.declared.ReadError.{ReadError}
 use Rattle.batches.specs.Answers.{Answer, Kind, view_read, Rooms, rooms_of, has_room, answer_of, tables_of}
 use Rattle.batches.specs.Promises.{ReadOutcome, ReadPromise}
 use Rattle.batches.proofs.Passed.{passed}
@@ -52,11 +54,11 @@ named place a none k = last (stop_line a.number place)
 abbrev answered : ℕ → Answer → Turn
 answered place a = named place a a.fields a.kind
 
-read_answered : (place : ℕ) (r : BatchRead) → read_turn place r ≡ answered place (view_read r)
-read_answered place (BatchRead.Accepted b k m bytes) = refl
-read_answered place (BatchRead.MoreBytes bytes) = refl
-read_answered place (BatchRead.Refused f) = refl
-read_answered place (BatchRead.NoRoom n m) = refl
+read_answered : (place : ℕ) (r : Result BatchFound ReadError) → read_turn place r ≡ answered place (view_read r)
+read_answered place (Ok b) = refl
+read_answered place (Err (ReadError.MoreBytes bytes)) = refl
+read_answered place (Err (ReadError.Refused f)) = refl
+read_answered place (Err (ReadError.NoRoom n m)) = refl
 
 -- by whether there is room
 module _ (rooms : Rooms) (place : ℕ) where
@@ -80,7 +82,7 @@ turn_read s place t o h e =
 -- ---- where it goes on
 
 last_not_line : {X : Type 0} {text text' : List ℕ} {next : ℕ} → last text ≡ line text' next → X
-last_not_line e = let z : ◌≡◌ {A = ℕ} 0 1 = cc in absurd (omega arith)
+last_not_line e = cc
 
 -- what is accepted has bytes, and they are there
 consumed_within : (s : List ℕ) (b : Accepted) → judge listed_mode s ≡ accepted b → (0 < b.consumed) × (b.consumed ≤ length s)
@@ -110,15 +112,13 @@ turn_forward rooms s place text next e =
           (omega arith, omega (arith, length-drop place s))
     ]
 
-read_fits : (rooms : Rooms) (s : List ℕ) (place : ℕ) → length s < 2 ^ 64 → (r : BatchRead) → read_turn place r ≡ turn_at rooms s place → NextFits place r
-read_fits rooms s place h (BatchRead.Accepted b k m bytes) e = let (_, within) = turn_forward rooms s place _ _ (sym e) in omega arith
-read_fits rooms s place h (BatchRead.MoreBytes bytes) e = tt
-read_fits rooms s place h (BatchRead.Refused f) e = tt
-read_fits rooms s place h (BatchRead.NoRoom n m) e = tt
+read_fits : (rooms : Rooms) (s : List ℕ) (place : ℕ) → length s < 2 ^ 64 → (r : Result BatchFound ReadError) → read_turn place r ≡ turn_at rooms s place → NextFits place r
+read_fits rooms s place h (Ok b) e = let (_, within) = turn_forward rooms s place _ _ (sym e) in omega arith
+read_fits rooms s place h (Err x) e = tt
 
 -- ---- what was read at a place, from the file's bytes from there to their end
 
-module _ (s : List ℕ) (place : ℕ) (t t' : Tables) (r : BatchRead) (h : place < length s)
+module _ (s : List ℕ) (place : ℕ) (t t' : Tables) (r : Result BatchFound ReadError) (h : place < length s)
     (e : ReadPromise listed_mode (take (length s - place) (drop place s)) t (record { result = r; tables = t' })) where
   reads : ReadPromise listed_mode (drop place s) t (record { result = r; tables = t' })
   reads = subst (λ (x : List ℕ). ReadPromise listed_mode x t (record { result = r; tables = t' })) (part_to_end s place) e

@@ -1,11 +1,10 @@
 -- The laws of the listing, each in words and then as a statement. What proves each stands in proofs/ under the
 -- statement's name in small letters, with `_lem` after it where a definition has that name: `listed : Listed`,
 -- `program_rooms_lem : ProgramRooms`.
-use Rattle.std.specs.Prelude.{ℕ, suc, ◌+◌, ◌-◌, ◌*◌, ◌^◌, ◌<◌, ◌≤◌, ◌≡◌, List, [], ◌∷◌, ◌++◌, length, get_or, take}
+use Rattle.std.specs.Prelude.{ℕ, suc, ◌+◌, ◌-◌, ◌*◌, ◌^◌, ◌<◌, ◌≤◌, ◌≡◌, List, [], ◌∷◌, ◌++◌, length, get_or, take, Some, None}
 use Rattle.records.specs.Rows.{Tables}
 use Rattle.batches.specs.Answers.{Rooms, rooms_of}
 use Rattle.listing.specs.declared.Line.{Line}
-use Rattle.listing.specs.declared.Next.{Next}
 use Rattle.listing.specs.declared.Entry.{Entry}
 use Rattle.listing.specs.Text.{decimal}
 use Rattle.listing.specs.Listing.{program_rooms, lines_from, listing}
@@ -46,8 +45,8 @@ text_of (x ∷ rest) = shown_line x.line ++ text_of rest
 -- From an entry on, what `list_at` answers one time after the other, up to the last: each time it is lent the place at
 -- which the listing goes on, and tables with so many rows. What stands in these is nothing to the listing.
 pub data Follow (s : List ℕ) (rooms : Rooms) : Entry → List Entry → Type 0 where
-  done : {x : Entry} → x.next ≡ Next.Done → Follow s rooms x []
-  goes_on : {x : Entry} {place : ℕ} {t : Tables} {o : ListOutcome} {rest : List Entry} → x.next ≡ Next.At place → rooms_of t ≡ rooms
+  done : {x : Entry} → x.next ≡ None → Follow s rooms x []
+  goes_on : {x : Entry} {place : ℕ} {t : Tables} {o : ListOutcome} {rest : List Entry} → x.next ≡ Some place → rooms_of t ≡ rooms
       → ListAtPromise s place t o → Follow s rooms o.result rest → Follow s rooms x (o.result ∷ rest)
 
 -- The first entry and those that follow it have, in order, the lines of the listing.
@@ -82,7 +81,7 @@ AtInUse = (s : List ℕ) (place : ℕ) (t : Tables) (o : ListOutcome) → ListAt
 -- Where it goes on is further on, and within the file.
 abbrev pub Forward : Type 0
 Forward =
-    (s : List ℕ) (place : ℕ) (t : Tables) (o : ListOutcome) (next : ℕ) → ListAtPromise s place t o → o.result.next ≡ Next.At next
+    (s : List ℕ) (place : ℕ) (t : Tables) (o : ListOutcome) (next : ℕ) → ListAtPromise s place t o → o.result.next ≡ Some next
     → (place < next) × (next ≤ length s)
 
 -- More turns than there are bytes left print the same lines, however many they are.

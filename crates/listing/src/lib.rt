@@ -1,7 +1,7 @@
 // What the program `list` prints of a file: one line after the other, each handed out by value.
 #![tactic(auto)]
 
-ghost use Rattle.std.specs.Prelude.{◌≡◌, [], ◌∷◌, ◌++◌};
+ghost use Rattle.std.specs.Prelude.{◌≡◌, [], ◌∷◌, ◌++◌, None};
 ghost use Rattle.records.specs.Rows.{tables};
 ghost use Rattle.batches.specs.Answers.{view_kind, view_count};
 ghost use Rattle.listing.specs.Text.{spaced, decimal, signed_decimal};
@@ -10,7 +10,7 @@ ghost use Rattle.listing.specs.Answers.{entry_of};
 ghost use Rattle.listing.specs.Writing.{pushed, written, empty_line, read_turn, NextFits};
 ghost use Rattle.listing.specs.Promises.{ListFirstPromise, ListAtPromise};
 
-use batches::{BatchRead, ControlBatchOrRecords, RecordBatch};
+use batches::{BatchFound, ControlBatchOrRecords, ReadError, RecordBatch};
 use layout::ControlMode;
 use markers::ControlBatchRecord;
 
@@ -21,18 +21,11 @@ pub struct Line {
     pub len: usize,
 }
 
-// Where the listing goes on.
-#[derive(Clone, Copy)]
-pub enum Next {
-    At(usize),
-    Done,
-}
-
-// A line of the listing.
+// A line of the listing, and where the listing goes on, if it does.
 #[derive(Drop)]
 pub struct Entry {
     pub line: Line,
-    pub next: Next,
+    pub next: Option<usize>,
 }
 
 // The longest file that is listed.
@@ -52,7 +45,7 @@ pub fn list_first(bytes: &[u8]) -> Entry
     }
     Entry {
         line: Line::new().text(b"base bytes kind records headers\n"),
-        next: Next::At(0),
+        next: Some(0),
     }
 }
 
@@ -68,39 +61,29 @@ pub fn list_at(bytes: &[u8], place: usize, records: &mut [i64], headers: &mut [i
 }
 
 // The line of what was read at a place.
-fn entry_of(read: BatchRead, place: usize) -> Entry
+fn entry_of(read: Result<BatchFound, ReadError>, place: usize) -> Entry
     requires { NextFits place read }
     ensures { result ≡ entry_of (read_turn place read) }
 {
     match read {
-        BatchRead::Accepted {
-            batch,
-            kind,
-            headers,
-            consumed,
-        } => {
-            let base = batch.base_offset;
+        Ok(found) => {
+            let batch = found.batch;
+            let consumed = found.consumed;
             Entry {
-                line: batch_line(base, consumed, kind, headers),
-                next: Next::At(place + consumed),
+                line: batch_line(batch.base_offset, consumed, found.kind, found.headers),
+                next: Some(place + consumed),
             }
         }
-        BatchRead::MoreBytes(_) => last(stop_line(MORE_BYTES, place)),
-        BatchRead::Refused(fault) => last(stop_line(fault.number() as u64, place)),
-        BatchRead::NoRoom {
-            records: _,
-            headers: _,
-        } => last(stop_line(NO_ROOM, place)),
+        Err(ReadError::MoreBytes(_)) => last(stop_line(MORE_BYTES, place)),
+        Err(ReadError::Refused(fault)) => last(stop_line(fault.number() as u64, place)),
+        Err(ReadError::NoRoom { .. }) => last(stop_line(NO_ROOM, place)),
     }
 }
 
 fn last(line: Line) -> Entry
-    ensures { result ≡ record { line = line; next = Next.Done } }
+    ensures { result ≡ record { line = line; next = None } }
 {
-    Entry {
-        line,
-        next: Next::Done,
-    }
+    Entry { line, next: None }
 }
 
 fn batch_line(base: i64, bytes: usize, kind: ControlBatchOrRecords, headers: usize) -> Line
@@ -109,17 +92,8 @@ fn batch_line(base: i64, bytes: usize, kind: ControlBatchOrRecords, headers: usi
     let opening = Line::new().signed(base).number(bytes as u64, b' ');
     opening
         .kind(kind)
-        .number(records_of(kind) as u64, b' ')
+        .number(kind.record_count() as u64, b' ')
         .number(headers as u64, b'\n')
-}
-
-fn records_of(kind: ControlBatchOrRecords) -> usize
-    ensures { result ≡ view_count kind }
-{
-    match kind {
-        ControlBatchOrRecords::ControlBatch(_) => 0,
-        ControlBatchOrRecords::Records(n) => n,
-    }
 }
 
 fn end_line(size: usize) -> Line
@@ -169,10 +143,8 @@ impl Line {
         ensures { result ≡ written self s.now }
     {
         let mut line = self;
-        let mut i = 0;
-        while i < s.len() {
-            line = line.byte(s[i]);
-            i += 1;
+        for &b in s {
+            line = line.byte(b);
         }
         line
     }
@@ -190,29 +162,29 @@ impl Line {
         }
     }
 
-    // A number and the byte after it. Twenty digits hold every number of 64 bits; the last is put in first.
+    // The digits of a number, without zeros in front.
+    fn digits(self, n: u64) -> Line
+        ensures { result ≡ written self (decimal n) }
+    {
+        let digit = b'0' + (n % 10) as u8;
+        if n < 10 {
+            return self.byte(digit);
+        }
+        self.digits(n / 10).byte(digit)
+    }
+
+    // A number and the byte after it.
     fn number(self, n: u64, after: u8) -> Line
         ensures { result ≡ written self (decimal n ++ (after ∷ [])) }
     {
-        let mut digits = [0u8; 20];
-        let mut at: usize = 19;
-        let mut rest = n;
-        while 10 <= rest {
-            digits[at] = b'0' + (rest % 10) as u8;
-            rest = rest / 10;
-            at -= 1;
-        }
-        digits[at] = b'0' + rest as u8;
-        self.text(&digits[at..]).byte(after)
+        self.digits(n).byte(after)
     }
 
     // The same of a signed number, with a space after it.
     fn signed(self, n: i64) -> Line
         ensures { result ≡ written self (spaced (signed_decimal n)) }
     {
-        if 0 <= n {
-            return self.number(n as u64, b' ');
-        }
-        self.byte(b'-').number((-1 - n) as u64 + 1, b' ')
+        let line = if n < 0 { self.byte(b'-') } else { self };
+        line.number(n.unsigned_abs(), b' ')
     }
 }

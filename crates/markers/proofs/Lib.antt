@@ -7,6 +7,4 @@ pub mod Keyed
 mod KeyFront
 pub mod KeyedFaults
 mod KeyReading
-mod Putting
-mod Reading
 pub mod Single

@@ -1,16 +1,16 @@
 -- What a marker is written as, what the answers say, and what the place of a key shows.
-use Rattle.std.specs.Prelude.{ℕ, ◌≡◌, List, ◌++◌, ℤ, pos, negsuc, nat_abs}
+use Rattle.std.specs.Prelude.{ℕ, Result, ◌≡◌, List, ◌++◌, ℤ, pos, negsuc, nat_abs}
 use Rattle.std.proofs.Math.Option.{Option, none, some}
 use Rattle.numbers.specs.Format.{big_endian}
-use Rattle.primitives.specs.Step.{Step, ok, no}
 use Rattle.primitives.specs.Reading.{Span}
 use Rattle.records.specs.declared.Place.{Place}
 use Rattle.records.specs.Inside.{NullableInside}
 use Rattle.layout.specs.Batch.{Marker, abort, commit}
 use Rattle.layout.specs.Format.{marker_type}
-use Rattle.opening.specs.Answers.{batch_number_of}
+use Rattle.opening.specs.declared.BatchFault.{BatchFault}
+use Rattle.opening.specs.Answers.{view_made}
+use Rattle.opening.specs.Judgement.{marker_of}
 use Rattle.markers.specs.declared.ControlBatchRecord.{ControlBatchRecord}
-use Rattle.markers.specs.declared.ControlBatchRecordRead.{ControlBatchRecordRead}
 
 -- Kafka, message format, control batch: version 0, then the type
 unfoldable pub written_marker : Marker → List ℕ
@@ -20,9 +20,9 @@ abbrev pub view_marker : ControlBatchRecord → Marker
 view_marker ControlBatchRecord.Abort = abort
 view_marker ControlBatchRecord.Commit = commit
 
-abbrev pub view_marker_read : ControlBatchRecordRead → Step ℕ Marker
-view_marker_read (ControlBatchRecordRead.Got m c) = ok (view_marker m) c.at
-view_marker_read (ControlBatchRecordRead.Refused f) = no (batch_number_of f)
+-- document 01, Reader's numbers, 12: a marker, by its type
+abbrev pub Typed : ℤ → Result ControlBatchRecord BatchFault → Type 0
+Typed t r = (p : ℕ) → view_made view_marker p r ≡ marker_of t p
 
 -- what a place of a row shows, from its start and its length: nothing where the length is negative
 abbrev pub shown_from : ℤ → ℤ → Option Span

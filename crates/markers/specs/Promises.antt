@@ -1,25 +1,28 @@
 -- What each public function promises of its result and of the output, for every input. Lent bytes are lent to be read:
 -- no function here can change them.
-use Rattle.std.specs.Prelude.{ℕ, ◌≡◌, Bool, true, List, length}
+use Rattle.std.specs.Prelude.{ℕ, ◌≡◌, Bool, true, List, Result, length}
 use Rattle.numbers.specs.Exactly.{Exactly}
 use Rattle.numbers.specs.Promises.{PutOutcome, PutPromise}
+use Rattle.primitives.specs.declared.Cursor.{Cursor}
+use Rattle.primitives.specs.Answers.{view_read}
 use Rattle.primitives.specs.Stands.{Encoding}
 use Rattle.layout.specs.declared.ControlMode.{ControlMode}
 use Rattle.layout.specs.Batch.{Marker}
 use Rattle.layout.specs.Format.{grammar_of}
+use Rattle.opening.specs.declared.BatchFault.{BatchFault}
+use Rattle.opening.specs.Answers.{batch_number_of}
 use Rattle.opening.specs.Judgement.{bare_marker_at, way_of}
 use Rattle.markers.specs.declared.ControlBatchRecord.{ControlBatchRecord}
-use Rattle.markers.specs.declared.ControlBatchRecordRead.{ControlBatchRecordRead}
-use Rattle.markers.specs.Markers.{view_marker, view_marker_read}
+use Rattle.markers.specs.Markers.{view_marker}
 use Rattle.markers.specs.Forms.{written_control}
 
 -- ControlBatchRecord::read, on bytes s and a cursor at a place: the marker, with nothing after it, or a number
-abbrev pub ReadMarkerPromise : ControlMode → List ℕ → ℕ → ControlBatchRecordRead → Type 0
-ReadMarkerPromise mode s at r = view_marker_read r ≡ way_of mode s at
+abbrev pub ReadMarkerPromise : ControlMode → List ℕ → ℕ → Result (ControlBatchRecord × Cursor) BatchFault → Type 0
+ReadMarkerPromise mode s at r = view_read batch_number_of view_marker r ≡ way_of mode s at
 
 -- ControlBatchRecord::read_bare, the same by the old rules: version and type stand alone
-abbrev pub ReadBarePromise : List ℕ → ℕ → ControlBatchRecordRead → Type 0
-ReadBarePromise s at r = view_marker_read r ≡ bare_marker_at s at
+abbrev pub ReadBarePromise : List ℕ → ℕ → Result (ControlBatchRecord × Cursor) BatchFault → Type 0
+ReadBarePromise s at r = view_read batch_number_of view_marker r ≡ bare_marker_at s at
 
 -- by the strict grammar a marker stands from a place up to the end of the bytes
 abbrev pub StandsAlone : ControlMode → List ℕ → ℕ → Type 0

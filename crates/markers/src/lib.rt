@@ -3,19 +3,21 @@
 
 ghost use Rattle.std.specs.Prelude.{◌≡◌, true, length};
 ghost use Rattle.numbers.specs.Exactly.{Exactly};
+ghost use Rattle.primitives.specs.Answers.{view_read};
 ghost use Rattle.primitives.specs.Stands.{Stands};
 ghost use Rattle.layout.specs.declared.ControlMode.{ControlMode};
-ghost use Rattle.opening.specs.Judgement.{ended_at, marker_in_key, keyed_marker_at};
-ghost use Rattle.markers.specs.Markers.{view_marker, view_marker_read, key_of, KeyPlace};
+ghost use Rattle.opening.specs.Answers.{batch_number_of};
+ghost use Rattle.opening.specs.Judgement.{marker_in_key, keyed_marker_at};
+ghost use Rattle.markers.specs.Markers.{view_marker, Typed, key_of, KeyPlace};
 ghost use Rattle.markers.specs.Forms.{written_control};
 ghost use Rattle.markers.specs.Promises.{ReadMarkerPromise, ReadBarePromise, StandsPromise, PutMarkerPromise};
 
 use layout::ControlMode;
 use numbers::put;
 use opening::BatchFault;
-use primitives::{Cursor, Int16Read};
-use reading::{RecordsCheck, check_records};
-use records::{CountRead, Place, Record, RecordFault, RecordRead, read_count};
+use primitives::Cursor;
+use reading::check_records;
+use records::{Place, Record, RecordFault, read_count};
 
 // The marker that ends a transaction.
 #[derive(Clone, Copy)]
@@ -24,112 +26,87 @@ pub enum ControlBatchRecord {
     Commit,
 }
 
-// A marker and the place after it, or why there is none.
-#[derive(Drop)]
-pub enum ControlBatchRecordRead {
-    Got(ControlBatchRecord, Cursor),
-    Refused(BatchFault),
+// A marker by its type.
+impl TryFrom<i16> for ControlBatchRecord {
+    type Error = BatchFault;
+
+    ghost try_from_gives = { Typed };
+
+    fn try_from(t: i16) -> Result<ControlBatchRecord, BatchFault> {
+        match t {
+            0 => Ok(ControlBatchRecord::Abort),
+            1 => Ok(ControlBatchRecord::Commit),
+            _ => Err(BatchFault::UnknownControl),
+        }
+    }
 }
 
 impl ControlBatchRecord {
     const VERSION: i16 = 0;
-    // The types.
-    const ABORT: i16 = 0;
-
-    const COMMIT: i16 = 1;
 
     // Nothing follows it in `s`. A marker that stands alone is refused in either mode.
-    pub fn read(mode: ControlMode, s: &[u8], c: Cursor) -> ControlBatchRecordRead
+    #[tactic(auto, unfolding(opening::specs::Judgement::way_of, opening::specs::Judgement::former_way_of))]
+    pub fn read(
+        mode: ControlMode,
+        s: &[u8],
+        c: Cursor,
+    ) -> Result<(ControlBatchRecord, Cursor), BatchFault>
         ensures { ReadMarkerPromise mode s.now c.at result }
     {
         match ControlBatchRecord::read_bare(s, c) {
-            ControlBatchRecordRead::Got(_, _) => ControlBatchRecordRead::Refused(
-                BatchFault::BareMarker,
-            ),
-            ControlBatchRecordRead::Refused(f) => match mode {
-                ControlMode::Bare => ControlBatchRecordRead::Refused(f),
+            Ok(_) => Err(BatchFault::BareMarker),
+            Err(f) => match mode {
+                ControlMode::Bare => Err(f),
                 ControlMode::Keyed => ControlBatchRecord::read_keyed(s, c),
             },
         }
     }
 
     // In the form that is withdrawn: version and type stand alone. The version is judged before the type is looked at.
-    pub fn read_bare(s: &[u8], c: Cursor) -> ControlBatchRecordRead
+    #[tactic(auto, unfolding(opening::specs::Judgement::bare_marker_at))]
+    pub fn read_bare(s: &[u8], c: Cursor) -> Result<(ControlBatchRecord, Cursor), BatchFault>
         ensures { ReadBarePromise s.now c.at result }
     {
-        match c.read_int16(s) {
-            Int16Read::Got(version, at_type) => {
-                let version = version.0;
-                if version != ControlBatchRecord::VERSION {
-                    return ControlBatchRecordRead::Refused(BatchFault::UnknownControl);
-                }
-                match at_type.read_int16(s) {
-                    Int16Read::Got(t, next) => {
-                        let t = t.0;
-                        if t == ControlBatchRecord::ABORT {
-                            return ended(s, ControlBatchRecord::Abort, next);
-                        }
-                        if t == ControlBatchRecord::COMMIT {
-                            return ended(s, ControlBatchRecord::Commit, next);
-                        }
-                        ControlBatchRecordRead::Refused(BatchFault::UnknownControl)
-                    }
-                    Int16Read::Refused(f) => ControlBatchRecordRead::Refused(BatchFault::Body(
-                        RecordFault::Field(f),
-                    )),
-                }
-            }
-            Int16Read::Refused(f) => ControlBatchRecordRead::Refused(BatchFault::Body(
-                RecordFault::Field(f),
-            )),
+        let (version, at_type) = c.read_int16(s)?;
+        if version.0 != ControlBatchRecord::VERSION {
+            return Err(BatchFault::UnknownControl);
         }
+        let (t, next) = at_type.read_int16(s)?;
+        let marker = ControlBatchRecord::try_from(t.0)?;
+        if next.at < s.len() {
+            return Err(BatchFault::Body(RecordFault::BytesLeft));
+        }
+        Ok((marker, next))
     }
 
     // The record is judged first, up to the end of `s`, and then its key. What has been judged is not refused when it is
     // read for its key.
-    fn read_keyed(s: &[u8], c: Cursor) -> ControlBatchRecordRead
-        ensures { view_marker_read result ≡ keyed_marker_at s.now c.at }
+    #[tactic(auto, using(crate::proofs::KeyReading::keys))]
+    fn read_keyed(s: &[u8], c: Cursor) -> Result<(ControlBatchRecord, Cursor), BatchFault>
+        ensures { view_read batch_number_of view_marker result ≡ keyed_marker_at s.now c.at }
     {
-        match check_records(s, c.at, 1) {
-            RecordsCheck::Accepted {
-                records: _,
-                headers: _,
-                end,
-            } => match read_count(c, s) {
-                CountRead::Got(_, at_fields) => match Record::read(at_fields, s) {
-                    RecordRead::Got(record, _) => ControlBatchRecord::in_key(s, record.key, end),
-                    RecordRead::Refused(f) => ControlBatchRecordRead::Refused(BatchFault::Body(
-                        RecordFault::Field(f),
-                    )),
-                },
-                CountRead::Refused(f) => ControlBatchRecordRead::Refused(BatchFault::Body(
-                    RecordFault::Field(f),
-                )),
-            },
-            RecordsCheck::Refused(f) => ControlBatchRecordRead::Refused(BatchFault::Body(f)),
-        }
+        let found = check_records(s, c.at, 1)?;
+        let (_, at_fields) = read_count(c, s)?;
+        let (record, _) = Record::read(at_fields, s)?;
+        ControlBatchRecord::in_key(s, record.key, found.end)
     }
 
     // The first four bytes of a key, of a record that ends at `end`. A null key has the length -1.
-    fn in_key(s: &[u8], key: Place, end: usize) -> ControlBatchRecordRead
+    fn in_key(s: &[u8], key: Place, end: usize) -> Result<(ControlBatchRecord, Cursor), BatchFault>
         requires { KeyPlace s.now key }
-        ensures { view_marker_read result ≡ marker_in_key s.now (key_of key) end }
+        ensures { view_read batch_number_of view_marker result ≡ marker_in_key s.now (key_of key) end }
     {
         if key.len < 4 {
-            return ControlBatchRecordRead::Refused(BatchFault::UnknownControl);
+            return Err(BatchFault::UnknownControl);
         }
         let start = key.start as usize;
         let past = start + 4;
-        match ControlBatchRecord::read_bare(&s[..past], Cursor { at: start }) {
-            ControlBatchRecordRead::Got(marker, _) => ControlBatchRecordRead::Got(
-                marker,
-                Cursor { at: end },
-            ),
-            ControlBatchRecordRead::Refused(f) => ControlBatchRecordRead::Refused(f),
-        }
+        let (marker, _) = ControlBatchRecord::read_bare(&s[..past], Cursor { at: start })?;
+        Ok((marker, Cursor { at: end }))
     }
 
     // Whether a marker, as it is written, stands at the cursor and ends where `s` ends.
+    #[tactic(auto, unfolding(layout::specs::Format::grammar_of))]
     pub fn stands(mode: ControlMode, s: &[u8], c: Cursor) -> bool
         ensures { StandsPromise mode s.now c.at result }
     {
@@ -143,13 +120,11 @@ impl ControlBatchRecord {
     fn keyed_stands(s: &[u8], c: Cursor) -> bool
         ensures { StandsPromise ControlMode.Keyed s.now c.at result }
     {
-        match ControlBatchRecord::read_keyed(s, c) {
-            ControlBatchRecordRead::Got(marker, _) => {
-                let bytes = marker.bytes();
-                stand(&bytes, s, c.at)
-            }
-            ControlBatchRecordRead::Refused(_) => false,
-        }
+        let Ok((marker, _)) = ControlBatchRecord::read_keyed(s, c) else {
+            return false;
+        };
+        let bytes = marker.bytes();
+        stand(&bytes, s, c.at)
     }
 
     // Writes it from `at` on, as far as the output goes, and gives the place after it.
@@ -161,6 +136,7 @@ impl ControlBatchRecord {
     }
 
     // A record whose key is version and type, each of two bytes, with zero deltas, no value and no headers.
+    #[tactic(auto, using(crate::proofs::Keyed::keyed_listed))]
     fn bytes(self) -> [u8; 11]
         ensures { result ≡ written_control (view_marker self) }
     {
@@ -171,32 +147,12 @@ impl ControlBatchRecord {
     }
 }
 
-// Nothing follows a marker.
-fn ended(s: &[u8], marker: ControlBatchRecord, c: Cursor) -> ControlBatchRecordRead
-    ensures { view_marker_read result ≡ ended_at s.now (view_marker marker) c.at }
-{
-    if c.at < s.len() {
-        return ControlBatchRecordRead::Refused(BatchFault::Body(RecordFault::BytesLeft));
-    }
-    ControlBatchRecordRead::Got(marker, c)
-}
-
 // Whether these bytes stand from `at` on, and nothing after them.
 fn stand(bytes: &[u8], s: &[u8], at: usize) -> bool
     ensures { Exactly (result ≡ true) (Stands s.now at (length s.now) bytes.now) }
 {
-    if s.len() < at {
-        return false;
+    match s.get(at..) {
+        Some(rest) => rest == bytes,
+        None => false,
     }
-    if s.len() - at != bytes.len() {
-        return false;
-    }
-    let mut i = 0;
-    while i < bytes.len() {
-        if s[at + i] != bytes[i] {
-            return false;
-        }
-        i += 1;
-    }
-    true
 }

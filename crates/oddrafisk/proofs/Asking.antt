@@ -1,25 +1,27 @@
 -- What entries ask for, and what is given for them, by the tests that the code makes. The premises have the form in
 -- which a proof finds them. Assumes nothing.
 use Prim.Native.Nat.{ℕ, ◌+◌, ◌≤◌}
-use mathlib.Core.Path.{◌≡◌, refl, sym, ap, subst, ◌∙◌}
-use mathlib.Core.Bool.{Bool, true, false, not, true≢false}
-use mathlib.Core.Option.{Option, none, some, some-injective}
-use mathlib.Core.List.{List, [], ◌∷◌}
+use mathlib.Core.Path.{◌≡◌, refl, sym, ap, ◌∙◌}
+use mathlib.Core.Bool.{Bool, true, false}
+use mathlib.Core.Option.{Option, none, some}
+use mathlib.Core.List.{List}
 use native.Mathlib.Omega.{arith}
 use lib.Dec.{leb}
 use lib.IntN.{ℤ, pos}
 use lib.ListN.{length, get_or}
-use mir.Syntax.{w8, w64}
-use mir.Val.{Fits, SFits, to_z, of_z}
+use mir.Syntax.{w64}
+use mir.Val.{SFits, to_z, of_z}
 use mir.ValLaws.{to_z-of_z}
+use Rattle.std.specs.Prelude.{Result, Some, None}
+use Rattle.std.specs.Prelude as std
+use Rattle.std.specs.Option.{ok_or}
 use Rattle.numbers.specs.Pick.{pick}
 use Rattle.records.specs.Rows.{Tables}
 use Rattle.asking.specs.declared.WriteFault.{WriteFault}
 use Rattle.asking.specs.Answers.{write_number_of}
 use Rattle.layout.specs.declared.ControlMode.{ControlMode}
 use Rattle.layout.specs.Batch.{Fields}
-use Rattle.writing.specs.declared.Written.{Written}
-use Rattle.writing.specs.Answers.{Answer, writes, refuses, view_written, Given, given, refused, measured, answer_due, output_due}
+use Rattle.writing.specs.Answers.{writes, refuses, view_written, Given, given, refused, measured, answer_due}
 use Rattle.writing.specs.Promises.{WriteBy}
 use Rattle.writing.specs.Promises as Writing
 use Rattle.opening.specs.Judgement.{is}
@@ -27,112 +29,76 @@ use Rattle.batches.specs.declared.RecordBatch.{RecordBatch}
 use Rattle.batches.specs.declared.ControlBatchOrRecords.{ControlBatchOrRecords}
 use Rattle.batches.specs.Answers.{view_fields}
 use Rattle.batches.specs.Writer.{Wanted, view_wanted, batch_given}
-use Rattle.batches.specs.Request.{InWidth}
-use Rattle.batches.specs.Promises as Batches
 use Rattle.batches.proofs.Encodes.{content_length, shows}
 use Rattle.batches.proofs.Given.{given_for_lem}
 use Rattle.batches.proofs.Again.{none_not_some}
 use Rattle.batches.proofs.Giving.{written_length}
-use Rattle.oddrafisk.specs.declared.asked.BatchAsked.{BatchAsked}
-use Rattle.oddrafisk.specs.declared.asked.KindAsked.{KindAsked}
-use Rattle.oddrafisk.specs.Entries.{mode_of, fields_fit, fields_of, kind_wanted, bare_asked, AskedBatch, asked_with, entries_asked}
-use Rattle.oddrafisk.specs.Promises.{given_for, kind_given, entries_given, Sizes, MeasurePromise, Handed, WritePromise}
-use Rattle.oddrafisk.specs.Words.{view_asked, view_kind_asked, wrong_number, WritesFor}
-use Rattle.oddrafisk.proofs.Tests.{is_so, is_not}
+use Rattle.oddrafisk.specs.Entries.{fields_fit, fields_of, kind_wanted, bare_asked, AskedBatch, asked_with, entries_asked}
+use Rattle.oddrafisk.specs.Promises.{given_for, kind_given, entries_given}
+use Rattle.oddrafisk.specs.Words.{view_option, view_asked, when, AsksBy, wrong_number, WritesFor}
+use Rattle.oddrafisk.proofs.Tests.{is_so}
 use Rattle.oddrafisk.proofs.Taken.{kind_given_lem}
-use Rattle.oddrafisk.proofs.Fitting.{negated, affirmed}
 
 -- ---- what entries ask for
 
-module _ (e : List ℤ) (r : Bool) (t : r ≡ fields_fit e) where
-  pub unfit_asked : not r ≡ true → none ≡ entries_asked e
+module _ (e : List ℤ) (r : std.Option RecordBatch) (t : view_option view_fields r ≡ when (fields_fit e) (fields_of e)) where
+  told : (a : std.Option RecordBatch) → r ≡ a → view_option view_fields a ≡ when (fields_fit e) (fields_of e)
+  told a h = ap (view_option view_fields) (sym h) ∙ t
+
+  pub fields_wrong : r ≡ None → {o : std.Option (RecordBatch × ControlBatchOrRecords)} → o ≡ None → view_option view_asked o ≡ entries_asked e
   unfolding entries_asked
-  unfit_asked h = rw (sym t ∙ negated r h) refl
+  fields_wrong h n = ap (view_option view_asked) n ∙ go (fields_fit e) (told None h)
+    where
+      go : (b : Bool) → none ≡ when b (fields_of e) → none ≡ pick b (asked_with (fields_of e) (kind_wanted (get_or e 10 (pos 0)) (get_or e 11 (pos 0)))) none
+      go true m = cc
+      go false m = refl
 
-  pub fit_so : not r ≡ false → fields_fit e ≡ true
-  fit_so h = sym t ∙ affirmed r h
-
-  module _ (h : not r ≡ false) (f : SFits w64 (get_or e 10 (pos 0))) (g : SFits w64 (get_or e 11 (pos 0))) (k : KindAsked)
-      (v : view_kind_asked k ≡ kind_wanted (to_z w64 (of_z w64 (get_or e 10 (pos 0)))) (to_z w64 (of_z w64 (get_or e 11 (pos 0))))) where
-    asked_by : asked_with (fields_of e) (view_kind_asked k) ≡ entries_asked e
+  module _ (b : RecordBatch) (h : r ≡ Some b) (f : SFits w64 (get_or e 10 (pos 0))) (g : SFits w64 (get_or e 11 (pos 0))) (k : std.Option ControlBatchOrRecords)
+      (v : view_option view_wanted k ≡ kind_wanted (to_z w64 (of_z w64 (get_or e 10 (pos 0)))) (to_z w64 (of_z w64 (get_or e 11 (pos 0))))) where
+    asked_by : (a : std.Option ControlBatchOrRecords) → k ≡ a → asked_with (view_fields b) (view_option view_wanted a) ≡ entries_asked e
     unfolding entries_asked
-    asked_by =
-        rw (fit_so h)
-        (ap (asked_with (fields_of e)) (v ∙ (λ i. kind_wanted (to_z-of_z w64 (get_or e 10 (pos 0)) f i) (to_z-of_z w64 (get_or e 11 (pos 0)) g i))))
+    asked_by a m = go (fields_fit e) (told (Some b) h)
+      where
+        kind : view_option view_wanted a ≡ kind_wanted (get_or e 10 (pos 0)) (get_or e 11 (pos 0))
+        kind =
+            ap (view_option view_wanted) (sym m) ∙ v
+            ∙ (λ i. kind_wanted (to_z-of_z w64 (get_or e 10 (pos 0)) f i) (to_z-of_z w64 (get_or e 11 (pos 0)) g i))
 
-    pub kind_wrong : k ≡ KindAsked.Wrong → none ≡ entries_asked e
-    kind_wrong p = ap (λ (k : KindAsked). asked_with (fields_of e) (view_kind_asked k)) (sym p) ∙ asked_by
+        go : (t : Bool) → some (view_fields b) ≡ when t (fields_of e)
+            → asked_with (view_fields b) (view_option view_wanted a) ≡ pick t (asked_with (fields_of e) (kind_wanted (get_or e 10 (pos 0)) (get_or e 11 (pos 0)))) none
+        go true m = let s : view_fields b ≡ fields_of e = cc in λ i. asked_with (s i) (kind i)
+        go false m = cc
 
-    pub kind_got : (x : ControlBatchOrRecords) → k ≡ KindAsked.Got x → (b : RecordBatch) → view_fields b ≡ fields_of e
-        → some (record { fields = view_fields b; wanted = view_wanted x }) ≡ entries_asked e
-    kind_got x p b q =
-        ap (λ (y : Fields). some (record { fields = y; wanted = view_wanted x })) q
-        ∙ ap (λ (k : KindAsked). asked_with (fields_of e) (view_kind_asked k)) (sym p) ∙ asked_by
+    pub kind_wrong : k ≡ None → {o : std.Option (RecordBatch × ControlBatchOrRecords)} → o ≡ None → view_option view_asked o ≡ entries_asked e
+    kind_wrong m n = ap (view_option view_asked) n ∙ asked_by None m
+
+    pub both_got : (x : ControlBatchOrRecords) → k ≡ Some x → some (view_asked (b, x)) ≡ entries_asked e
+    both_got x m = asked_by (Some x) m
 
 -- ---- what is given for them
 
-module _ (mode : ControlMode) (e : List ℤ) (codec : ℤ) (f : SFits w64 codec) (t : Tables) (s : List ℕ) where
-  abbrev gives : Given
-  gives = entries_given mode e codec t s
+module _ (mode : ControlMode) (e : List ℤ) (codec : ℤ) (f : SFits w64 codec) (z : of_z w64 codec ≡ 0) (k : SFits w64 (get_or e 10 (pos 0))) where
+  codec_is : is 0 codec ≡ true
+  codec_is = is_so codec f 0 (omega arith) z
 
-  -- what is written for them, where the entries ask for nothing that is not of its width
-  writes_for : ((i : ℕ) → Fits w8 (get_or s i 0)) → ((b : AskedBatch) → is 0 codec ≡ true → entries_asked e ≡ some b → InWidth b.fields)
-      → (g : Given) → g ≡ gives → (out : List ℕ) (o : Writing.WriteOutcome) → WriteBy g 0 out o → WritesFor mode e codec t s out o
-  writes_for bytes widths g same out o w =
+  pub asks_by : (x : std.Option (RecordBatch × ControlBatchOrRecords)) → view_option view_asked x ≡ entries_asked e → (g : WriteFault)
+      → write_number_of g ≡ wrong_number mode (to_z w64 (of_z w64 (get_or e 10 (pos 0)))) → AsksBy mode e codec (ok_or x g)
+  asks_by (Some x) v g n =
       record {
-        handed = record { source = λ i. (bytes i).fits; fields = widths };
-        by = subst (λ (g : Given). WriteBy g 0 out o) same w;
+        is = sym v;
+        gives = λ t s. sym (kind_given_lem mode e t s (sym v)) ∙ rw codec_is refl;
       }
-
-  codec_refused : (of_z w64 codec ≡ 0 → ⊥) → refused 20 ≡ gives
-  codec_refused z = rw (is_not codec f 0 (omega arith) z) refl
-
-  pub measure_codec : (of_z w64 codec ≡ 0 → ⊥) → refuses 20 ≡ measured gives
-  measure_codec z = ap measured (codec_refused z)
-
-  pub write_codec : (of_z w64 codec ≡ 0 → ⊥) → ((i : ℕ) → Fits w8 (get_or s i 0)) → (out : List ℕ)
-      → WritesFor mode e codec t s out (record { result = Written.Refused WriteFault.Codec; output = out })
-  write_codec z bytes out =
-      writes_for bytes (λ b is _. absurd (true≢false (sym is ∙ is_not codec f 0 (omega arith) z))) (refused 20) (codec_refused z) out _
-      (record { answer = refl; output = refl })
-
-  module _ (z : of_z w64 codec ≡ 0) (x : BatchAsked) (v : view_asked x ≡ entries_asked e) where
-    module _ (w : x ≡ BatchAsked.Wrong) (k : SFits w64 (get_or e 10 (pos 0))) (g : WriteFault)
-        (n : write_number_of g ≡ wrong_number mode (to_z w64 (of_z w64 (get_or e 10 (pos 0))))) where
+  asks_by None v g n =
+      record {
+        refuses = λ t s.
+            ap refused (n ∙ ap (wrong_number mode) (to_z-of_z w64 (get_or e 10 (pos 0)) k))
+            ∙ sym (by_number (bare_asked mode (get_or e 10 (pos 0)))) ∙ rw (codec_is, ← v) refl;
+        nothing = λ b _ is. none_not_some (v ∙ is);
+      }
+    where
       by_number : (r : Bool) → pick r (refused 41) (refused 21) ≡ refused (pick r 41 21)
       by_number true = refl
       by_number false = refl
-
-      entries_refused : refused (write_number_of g) ≡ gives
-      entries_refused =
-          ap refused (n ∙ ap (wrong_number mode) (to_z-of_z w64 (get_or e 10 (pos 0)) k))
-          ∙ sym (by_number (bare_asked mode (get_or e 10 (pos 0))))
-          ∙ rw (is_so codec f 0 (omega arith) z, sym v ∙ ap view_asked w) refl
-
-      pub measure_wrong : refuses (write_number_of g) ≡ measured gives
-      measure_wrong = ap measured entries_refused
-
-      pub write_wrong : ((i : ℕ) → Fits w8 (get_or s i 0)) → (out : List ℕ)
-          → WritesFor mode e codec t s out (record { result = Written.Refused g; output = out })
-      write_wrong bytes out =
-          writes_for bytes (λ b _ is. none_not_some (ap view_asked (sym w) ∙ v ∙ is)) (refused (write_number_of g)) entries_refused out _
-          (record { answer = refl; output = refl })
-
-    module _ (b : RecordBatch) (k : ControlBatchOrRecords) (w : x ≡ BatchAsked.Got b k) where
-      entries_given_lem : batch_given mode (view_fields b) 0 (view_wanted k) t s ≡ gives
-      entries_given_lem = sym (kind_given_lem mode e t s (sym v ∙ ap view_asked w)) ∙ rw (is_so codec f 0 (omega arith) z) refl
-
-      pub measure_got : (r : Written) → view_written r ≡ measured (batch_given mode (view_fields b) 0 (view_wanted k) t s) → view_written r ≡ measured gives
-      measure_got r p = p ∙ ap measured entries_given_lem
-
-      pub write_got : ((i : ℕ) → Fits w8 (get_or s i 0)) → (out : List ℕ) (o : Writing.WriteOutcome) → Batches.WritePromise mode b 0 k t s out o
-          → WritesFor mode e codec t s out o
-      write_got bytes out o p = writes_for bytes widths (batch_given mode (view_fields b) 0 (view_wanted k) t s) entries_given_lem out o p.by
-        where
-          widths : (a : AskedBatch) → is 0 codec ≡ true → entries_asked e ≡ some a → InWidth a.fields
-          widths a _ is =
-              let w : record { fields = view_fields b; wanted = view_wanted k } ≡ a = some-injective _ a (ap view_asked (sym w) ∙ v ∙ is) in
-              subst (λ (a : AskedBatch). InWidth a.fields) w p.handed.fields
 
 -- ---- lengths
 
@@ -174,52 +140,10 @@ due_short out (given bs) h = go (leb (0 + length bs) (length out))
     go false = omega arith
 due_short out (refused n) h = omega arith
 
--- ---- what is said
+pub measure_fits : (mode : ControlMode) (e : List ℤ) (codec : ℤ) (t : Tables) (s : List ℕ) (r : Result ℕ WriteFault)
+    → view_written r ≡ measured (entries_given mode e codec t s) → (view_written r).bytes ≤ 2147483659
+measure_fits mode e codec t s r v = rw v (measured_short _ (entries_short mode e codec t s))
 
-module _ (a : Answer) (r : Written) (v : view_written r ≡ a) where
-  said : (n : ℕ) → n ≡ (view_written r).number → (l : ℤ) → l ≡ pos (view_written r).bytes → a.bytes ≤ 2147483659
-      → Sizes a (record { number = n; answer = to_z w64 (of_z w64 l) ∷ [] })
-  said n p l q h =
-      record {
-        number = p ∙ ap (λ (a : Answer). a.number) v;
-        answer = ap (λ (z : ℤ). to_z w64 (of_z w64 z) ∷ []) is ∙ ap (λ (z : ℤ). z ∷ []) (to_z-of_z w64 (pos a.bytes) (record { sfits = omega (arith, h) }));
-      }
-    where
-      is : l ≡ pos a.bytes
-      is = q ∙ ap (λ (a : Answer). pos a.bytes) v
-
-module _ (mode : ControlMode) (e : List ℤ) (codec : ℤ) (f : SFits w64 codec) (t : Tables) (s : List ℕ) where
-  -- with the codec as it is handed over
-  abbrev handed : Given
-  handed = entries_given mode e (to_z w64 (of_z w64 codec)) t s
-
-  is_given : handed ≡ entries_given mode e codec t s
-  is_given = ap (λ (z : ℤ). entries_given mode e z t s) (to_z-of_z w64 codec f)
-
-  short : Short handed
-  short = entries_short mode e (to_z w64 (of_z w64 codec)) t s
-
-  module _ (r : Written) (v : view_written r ≡ measured handed) where
-    pub measure_fits : (view_written r).bytes ≤ 2147483659
-    measure_fits = rw v (measured_short handed short)
-
-    pub measure_said : (k : ℕ) → mode ≡ mode_of k → (n : ℕ) → n ≡ (view_written r).number → (l : ℤ) → l ≡ pos (view_written r).bytes
-        → MeasurePromise (mode_of k) e codec t s (record { number = n; answer = to_z w64 (of_z w64 l) ∷ [] })
-    measure_said k by n p l q =
-        subst (λ (mode : ControlMode). MeasurePromise mode e codec t s (record { number = n; answer = to_z w64 (of_z w64 l) ∷ [] })) by
-        (subst (λ (g : Given). Sizes (measured g) (record { number = n; answer = to_z w64 (of_z w64 l) ∷ [] })) is_given
-        (said _ r v n p l q (measured_short handed short)))
-
-  module _ (out : List ℕ) (o : Writing.WriteOutcome) (w : WritesFor mode e (to_z w64 (of_z w64 codec)) t s out o) where
-    pub write_fits : (view_written o.result).bytes ≤ 2147483659
-    write_fits = rw w.by.answer (due_short out handed short)
-
-    pub write_said : (k : ℕ) → mode ≡ mode_of k → (n : ℕ) → n ≡ (view_written o.result).number → (l : ℤ) → l ≡ pos (view_written o.result).bytes
-        → WritePromise (mode_of k) e codec t s out (record { said = record { number = n; answer = to_z w64 (of_z w64 l) ∷ [] }; output = o.output })
-    write_said k by n p l q =
-        subst (λ (mode : ControlMode). WritePromise mode e codec t s out (record { said = record { number = n; answer = to_z w64 (of_z w64 l) ∷ [] }; output = o.output })) by
-        (record {
-          handed = subst (λ (z : ℤ). Handed e z s) (to_z-of_z w64 codec f) w.handed;
-          said = subst (λ (g : Given). Sizes (answer_due 0 out g) (record { number = n; answer = to_z w64 (of_z w64 l) ∷ [] })) is_given (said _ o.result w.by.answer n p l q (due_short out handed short));
-          output = w.by.output ∙ ap (output_due 0 out) is_given;
-        })
+pub write_fits : (mode : ControlMode) (e : List ℤ) (codec : ℤ) (t : Tables) (s out : List ℕ) (o : Writing.WriteOutcome) → WritesFor mode e codec t s out o
+    → (view_written o.result).bytes ≤ 2147483659
+write_fits mode e codec t s out o w = rw w.by.answer (due_short out _ (entries_short mode e codec t s))

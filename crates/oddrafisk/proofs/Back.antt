@@ -12,6 +12,7 @@ use borrow.Author.Tests.{le-leb}
 use lib.IntN.{ℤ, pos, negsuc}
 use lib.ListN.{length, take, get_or}
 use lib.Seq.{take_at}
+use Rattle.std.specs.Prelude.{Ok}
 use Rattle.numbers.specs.Pick.{pick}
 use Rattle.primitives.specs.Step.{ok}
 use Rattle.primitives.proofs.Places.{in_front}
@@ -22,7 +23,6 @@ use Rattle.records.specs.Rows.{Tables}
 use Rattle.layout.specs.declared.ControlMode.{ControlMode}
 use Rattle.layout.specs.Batch.{Fields, abort, commit, Content, control, records, Batch}
 use Rattle.layout.specs.Format.{BatchBytes}
-use Rattle.writing.specs.declared.Written.{Written}
 use Rattle.writing.specs.Answers as Writing
 use Rattle.writing.specs.Answers.{writes, Given, given, refused, measured, answer_due}
 use Rattle.writing.proofs.Outcomes.{Numbered, put}
@@ -183,7 +183,7 @@ reads_back_in_c mode e codec t s out w promise zero =
     let due : Writing.Answer = answer_due 0 out (entries_given mode e codec t s) in
     let none : 0 ≡ due.number = sym zero ∙ promise.said.number in
     let n : ℕ = due.bytes in
-    let x = put (entries_given mode e codec t s) (entries_numbered mode e codec t s) 0 n out (record { result = Written.Bytes n; output = w.output })
+    let x = put (entries_given mode e codec t s) (entries_numbered mode e codec t s) 0 n out (record { result = Ok n; output = w.output })
     (λ i. record { number = none i; bytes = n }) promise.output in
     let (codec_is, kind) = pick_given (is 0 codec) (kind_given mode e t s) 20 x.is in
     let for = pick_not_refused (bare_asked mode (get_or e 10 (pos 0))) (given_for mode (entries_asked e) t s) kind in

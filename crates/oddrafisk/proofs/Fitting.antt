@@ -1,104 +1,119 @@
--- Which entries a batch can have, by the tests that the code makes, one after the other. Assumes nothing.
-use Prim.Native.Nat.{ℕ}
-use mathlib.Core.Path.{◌≡◌, refl, sym, ◌∙◌}
-use mathlib.Core.Bool.{Bool, true, false, not}
+-- Which entries a batch can have, by what the code finds of each; and what is asked for by the fields and the kind that
+-- they give. The premises have the form in which a proof finds them. Assumes nothing.
+use Prim.Native.Nat.{◌*◌}
+use mathlib.Core.Path.{◌≡◌, refl, sym, ap, ◌∙◌}
+use mathlib.Core.Bool.{Bool, true, false}
+use mathlib.Core.Option.{none, some}
 use mathlib.Core.List.{List}
-use native.Mathlib.Omega.{arith}
-use lib.Dec.{eqb}
-use lib.IntN.{ℤ, pos}
+use lib.IntN.{ℤ, pos, negsuc}
 use lib.ListN.{get_or}
-use mir.Syntax.{w64}
-use mir.Val.{SFits, to_z, of_z}
+use mir.Syntax.{Width, w64}
+use mir.Val.{SFits, to_z, of_z, bytes}
 use mir.ValLaws.{to_z-of_z}
-use Rattle.numbers.specs.Format.{in_bits}
-use Rattle.numbers.specs.Pick.{pick}
+use Rattle.std.specs.Prelude.{Result, Ok, Err, Some, None}
+use Rattle.std.specs.Prelude as std
+use Rattle.std.specs.Result.{OkIff, result_ok}
+use Rattle.numbers.specs.Format.{InBits, in_bits}
+use Rattle.numbers.proofs.InBits.{test_in, tested_in}
+use Rattle.numbers.proofs.Picks.{both_hold}
+use Rattle.numbers.proofs.Widths.{sign_bit}
 use Rattle.layout.specs.Batch.{TimestampType, Fields}
 use Rattle.opening.specs.Judgement.{is}
-use Rattle.oddrafisk.specs.Entries.{is0or1, widths_fit, flags_fit, fields_fit, type_of, flag_of}
-use Rattle.oddrafisk.proofs.Tests.{is_so, is_not, bits_test}
+use Rattle.batches.specs.declared.RecordBatch.{RecordBatch}
+use Rattle.batches.specs.Answers.{view_fields}
+use Rattle.oddrafisk.specs.Entries.{is0or1, widths_fit, flags_fit, fields_fit, fields_of}
+use Rattle.oddrafisk.specs.Words.{view_option, when}
 
--- ---- a test of a number, as it is handed over
+-- ---- a number of a narrower width, as try_from gives it
 
-pub negated : (b : Bool) → not b ≡ true → b ≡ false
-negated true h = sym h
-negated false h = refl
+module _ (w : Width) (z : ℤ) where
+  fits_width : InBits (8 * bytes w) z → SFits w z
+  fits_width = go z
+    where
+      go : (y : ℤ) → InBits (8 * bytes w) y → SFits w y
+      go (pos n) h = record { sfits = rw (sign_bit w) at h }
+      go (negsuc j) h = record { sfits = rw (sign_bit w) at h }
 
-pub affirmed : (b : Bool) → not b ≡ false → b ≡ true
-affirmed true h = refl
-affirmed false h = sym h
+  width_fits : SFits w z → InBits (8 * bytes w) z
+  width_fits = go z
+    where
+      go : (y : ℤ) → SFits w y → InBits (8 * bytes w) y
+      go (pos n) h = rw (sign_bit w) h.sfits
+      go (negsuc j) h = rw (sign_bit w) h.sfits
 
-module _ (test : ℤ → Bool) (z : ℤ) (f : SFits w64 z) (r : Bool) (e : r ≡ test (to_z w64 (of_z w64 z))) where
-  tested : test z ≡ r
-  tested = rw (← to_z-of_z w64 z f) (sym e)
+  module _ {E : Type 0} (fits : SFits w64 z) (r : Result ℤ E) (e : OkIff r (SFits w (to_z w64 (of_z w64 z))) (to_z w64 (of_z w64 z))) (o : std.Option ℤ) (same : o ≡ result_ok r) where
+    known : OkIff r (SFits w z) z
+    known = rw (to_z-of_z w64 z fits) at e
 
-  pub fails : not r ≡ true → test z ≡ false
-  fails h = tested ∙ negated r h
+    pub too_wide : o ≡ None → in_bits (8 * bytes w) z ≡ true → ⊥
+    too_wide h t = go r known (sym same ∙ h)
+      where
+        go : (r : Result ℤ E) → OkIff r (SFits w z) z → result_ok r ≡ None → ⊥
+        go (Ok x) k m = cc
+        go (Err x) k m = k (fits_width (tested_in (8 * bytes w) z t))
 
-  pub passes : not r ≡ false → test z ≡ true
-  passes h = tested ∙ affirmed r h
+    pub narrow : (x : ℤ) → o ≡ Some x → (in_bits (8 * bytes w) z ≡ true) × (to_z w (of_z w x) ≡ z)
+    narrow x h = go r known (sym same ∙ h)
+      where
+        go : (r : Result ℤ E) → OkIff r (SFits w z) z → result_ok r ≡ Some x → (in_bits (8 * bytes w) z ≡ true) × (to_z w (of_z w x) ≡ z)
+        go (Ok y) (f, is) m = let s : x ≡ z = cc in (test_in (8 * bytes w) z (width_fits f), rw s (to_z-of_z w z f))
+        go (Err y) k m = cc
 
--- ---- one after the other
+-- ---- what is told of a number, where a test holds of it
 
-module _ (e : List ℤ) where
-  abbrev entry : ℕ → ℤ
-  entry k = get_or e k (pos 0)
+module _ {A B : Type 0} (view : A → B) (test : ℤ → Bool) (f : ℤ → B) (z : ℤ) (fits : SFits w64 z) (r : std.Option A)
+    (e : view_option view r ≡ when (test (to_z w64 (of_z w64 z))) (f (to_z w64 (of_z w64 z)))) where
+  told : view_option view r ≡ when (test z) (f z)
+  told = rw (to_z-of_z w64 z fits) at e
 
-  module _ (f1 : SFits w64 (get_or e 1 (pos 0))) (r1 : Bool) (t1 : r1 ≡ in_bits 32 (to_z w64 (of_z w64 (get_or e 1 (pos 0))))) where
-    pub width_1 : not r1 ≡ true → false ≡ widths_fit e
-    width_1 h = rw (fails (in_bits 32) (entry 1) f1 r1 t1 h) refl
+  pub none_told : r ≡ None → test z ≡ true → ⊥
+  none_told h t = let n : none ≡ some (f z) = ap (view_option view) (sym h) ∙ told ∙ rw t refl in cc
 
-    module _ (l1 : not r1 ≡ false) (f2 : SFits w64 (get_or e 2 (pos 0))) (r2 : Bool) (t2 : r2 ≡ in_bits 32 (to_z w64 (of_z w64 (get_or e 2 (pos 0))))) where
-      pub width_2 : not r2 ≡ true → false ≡ widths_fit e
-      width_2 h = rw (passes (in_bits 32) (entry 1) f1 r1 t1 l1, fails (in_bits 32) (entry 2) f2 r2 t2 h) refl
+  pub some_told : (a : A) → r ≡ Some a → (test z ≡ true) × (view a ≡ f z)
+  some_told a h = go (test z) (ap (view_option view) (sym h) ∙ told)
+    where
+      go : (t : Bool) → some (view a) ≡ when t (f z) → (t ≡ true) × (view a ≡ f z)
+      go true m = let s : view a ≡ f z = cc in (refl, s)
+      go false m = cc
 
-      module _ (l2 : not r2 ≡ false) (f3 : SFits w64 (get_or e 6 (pos 0))) (r3 : Bool) (t3 : r3 ≡ in_bits 16 (to_z w64 (of_z w64 (get_or e 6 (pos 0))))) where
-        pub width_3 : not r3 ≡ true → false ≡ widths_fit e
-        width_3 h = rw (passes (in_bits 32) (entry 1) f1 r1 t1 l1, passes (in_bits 32) (entry 2) f2 r2 t2 l2, fails (in_bits 16) (entry 6) f3 r3 t3 h) refl
+-- ---- which entries fit
 
-        pub width_4 : not r3 ≡ false → SFits w64 (get_or e 7 (pos 0)) → (r : Bool) → r ≡ in_bits 32 (to_z w64 (of_z w64 (get_or e 7 (pos 0)))) → r ≡ widths_fit e
-        width_4 l3 f r t = sym (tested (in_bits 32) (entry 7) f r t) ∙ sym (rw (passes (in_bits 32) (entry 1) f1 r1 t1 l1, passes (in_bits 32) (entry 2) f2 r2 t2 l2, passes (in_bits 16) (entry 6) f3 r3 t3 l3) refl)
-
-  module _ (f1 : SFits w64 (get_or e 8 (pos 0))) (r1 : Bool) (t1 : r1 ≡ is0or1 (to_z w64 (of_z w64 (get_or e 8 (pos 0))))) where
-    pub flag_1 : not r1 ≡ true → false ≡ flags_fit e
-    flag_1 h = rw (fails is0or1 (entry 8) f1 r1 t1 h) refl
-
-    module _ (l1 : not r1 ≡ false) (f2 : SFits w64 (get_or e 9 (pos 0))) (r2 : Bool) (t2 : r2 ≡ is0or1 (to_z w64 (of_z w64 (get_or e 9 (pos 0))))) where
-      pub flag_2 : not r2 ≡ true → false ≡ flags_fit e
-      flag_2 h = rw (passes is0or1 (entry 8) f1 r1 t1 l1, fails is0or1 (entry 9) f2 r2 t2 h) refl
-
-      module _ (l2 : not r2 ≡ false) (f : SFits w64 (get_or e 14 (pos 0))) where
-        pub flag_3 : (of_z w64 (get_or e 14 (pos 0)) ≡ 0 → ⊥) → false ≡ flags_fit e
-        flag_3 h = rw (passes is0or1 (entry 8) f1 r1 t1 l1, passes is0or1 (entry 9) f2 r2 t2 l2, is_not (entry 14) f 0 (omega arith) h) refl
-
-        pub flag_4 : of_z w64 (get_or e 14 (pos 0)) ≡ 0 → SFits w64 (get_or e 15 (pos 0)) → eqb (of_z w64 (get_or e 15 (pos 0))) 0 ≡ flags_fit e
-        flag_4 h g = bits_test (entry 15) g 0 (omega arith) ∙ sym (rw (passes is0or1 (entry 8) f1 r1 t1 l1, passes is0or1 (entry 9) f2 r2 t2 l2, is_so (entry 14) f 0 (omega arith) h) refl)
-
-  module _ (a : Bool) (t : a ≡ widths_fit e) where
-    pub widths_wrong : not a ≡ true → false ≡ fields_fit e
-    widths_wrong h = rw (sym t ∙ negated a h) refl
-
-    pub flags_right : not a ≡ false → (r : Bool) → r ≡ flags_fit e → r ≡ fields_fit e
-    flags_right h r u = u ∙ sym (rw (sym t ∙ affirmed a h) refl)
-
--- ---- what the tests have told
-
-both : (a b : Bool) → pick a b false ≡ true → (a ≡ true) × (b ≡ true)
-both true b h = (refl, h)
-both false b h = let z : ◌≡◌ {A = ℕ} 0 1 = cc in absurd (omega arith)
-
-pub record Widths (e : List ℤ) : Type 0 where
+pub record Fit (e : List ℤ) : Type 0 where
   pub epoch : in_bits 32 (get_or e 1 (pos 0)) ≡ true
   pub delta : in_bits 32 (get_or e 2 (pos 0)) ≡ true
   pub producer : in_bits 16 (get_or e 6 (pos 0)) ≡ true
   pub sequence : in_bits 32 (get_or e 7 (pos 0)) ≡ true
+  pub type : is0or1 (get_or e 8 (pos 0)) ≡ true
+  pub flag : is0or1 (get_or e 9 (pos 0)) ≡ true
+  pub first : is 0 (get_or e 14 (pos 0)) ≡ true
+  pub second : is 0 (get_or e 15 (pos 0)) ≡ true
 
-pub widths : (e : List ℤ) → fields_fit e ≡ true → Widths e
-widths e h =
-    let (w, _) = both (widths_fit e) (flags_fit e) h in
-    let (a, v) = both (in_bits 32 (get_or e 1 (pos 0))) _ w in
-    let (b, u) = both (in_bits 32 (get_or e 2 (pos 0))) _ v in
-    let (c, d) = both (in_bits 16 (get_or e 6 (pos 0))) (in_bits 32 (get_or e 7 (pos 0))) u in
-    record { epoch = a; delta = b; producer = c; sequence = d }
+pub fit : (e : List ℤ) → fields_fit e ≡ true → Fit e
+fit e h =
+    let (w, x) = both_hold (widths_fit e) (flags_fit e) h in
+    let (epoch, w) = both_hold (in_bits 32 (get_or e 1 (pos 0))) _ w in
+    let (delta, w) = both_hold (in_bits 32 (get_or e 2 (pos 0))) _ w in
+    let (producer, sequence) = both_hold (in_bits 16 (get_or e 6 (pos 0))) _ w in
+    let (type, x) = both_hold (is0or1 (get_or e 8 (pos 0))) _ x in
+    let (flag, x) = both_hold (is0or1 (get_or e 9 (pos 0))) _ x in
+    let (first, second) = both_hold (is 0 (get_or e 14 (pos 0))) _ x in
+    record {
+      epoch = epoch;
+      delta = delta;
+      producer = producer;
+      sequence = sequence;
+      type = type;
+      flag = flag;
+      first = first;
+      second = second;
+    }
+
+pub unfit : (e : List ℤ) {r : std.Option RecordBatch} → r ≡ None → (fields_fit e ≡ true → ⊥) → view_option view_fields r ≡ when (fields_fit e) (fields_of e)
+unfit e h never = ap (view_option view_fields) h ∙ go (fields_fit e) never
+  where
+    go : (t : Bool) → (t ≡ true → ⊥) → none ≡ when t (fields_of e)
+    go true n = absurd (n refl)
+    go false n = refl
 
 -- ---- fields that are equal, one by one
 
@@ -143,12 +158,6 @@ fields_same e0 e1 e2 e3 e4 e5 e6 e7 e8 e9 =
       transactional = e9 i;
     }
 
-pub type_is : (z : ℤ) → SFits w64 z → (t : TimestampType) → t ≡ type_of (to_z w64 (of_z w64 z)) → t ≡ type_of z
-type_is z f t e = rw (← to_z-of_z w64 z f) e
-
-pub flag_is : (z : ℤ) → SFits w64 z → not (eqb (of_z w64 z) 0) ≡ flag_of z
-flag_is z f = rw (bits_test z f 0 (omega arith)) (go (is 0 z))
-  where
-    go : (b : Bool) → not b ≡ pick b false true
-    go true = refl
-    go false = refl
+pub fitting : (e : List ℤ) (x : Fields) → x ≡ fields_of e → Fit e → some x ≡ when (fields_fit e) (fields_of e)
+fitting e x same w =
+    ap some same ∙ sym (rw (w.epoch, w.delta, w.producer, w.sequence, w.type, w.flag, w.first, w.second) refl)

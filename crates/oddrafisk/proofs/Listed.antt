@@ -6,8 +6,9 @@ use mathlib.Core.List.{[], ◌∷◌}
 use native.Mathlib.Omega.{arith}
 use lib.IntN.{ℤ, pos}
 use mir.Syntax.{w64}
-use mir.Val.{SFits, to_z, of_z}
+use mir.Val.{to_z, of_z}
 use mir.ValLaws.{to_z_pos}
+use Rattle.std.specs.Int.{from_bool}
 use Rattle.layout.specs.Batch.{TimestampType, create_time, log_append_time, abort, commit}
 use Rattle.batches.specs.Answers.{Kind, of_records, of_marker}
 use Rattle.oddrafisk.specs.Entries.{type_entry, flag_entry, kind_entry}
@@ -18,7 +19,7 @@ type_same : (t : TimestampType) → to_z w64 (of_z w64 (type_entry t)) ≡ type_
 type_same create_time = refl
 type_same log_append_time = refl
 
-flag_same : (b : Bool) → to_z w64 (of_z w64 (flag_entry b)) ≡ flag_entry b
+flag_same : (b : Bool) → to_z w64 (of_z w64 (pos (from_bool b))) ≡ flag_entry b
 flag_same false = refl
 flag_same true = refl
 
@@ -33,16 +34,13 @@ machine z = to_z w64 (of_z w64 z)
 pub type_back : (t : TimestampType) (r : ℤ) → r ≡ type_entry t → to_z w64 (of_z w64 r) ≡ type_entry t
 type_back t r e = ap machine e ∙ type_same t
 
-pub flag_back : (b : Bool) (r : ℤ) → r ≡ flag_entry b → to_z w64 (of_z w64 r) ≡ flag_entry b
+pub flag_back : (b : Bool) (r : ℤ) → r ≡ pos (from_bool b) → to_z w64 (of_z w64 r) ≡ flag_entry b
 flag_back b r e = ap machine e ∙ flag_same b
 
 pub kind_back : (k : Kind) (r : ℤ) → r ≡ kind_entry k → to_z w64 (of_z w64 r) ≡ kind_entry k
 kind_back k r e = ap machine e ∙ kind_same k
 
 -- ---- counts
-
-pub count_fits : (n : ℕ) → n ≤ 2147483659 → SFits w64 (pos n)
-count_fits n h = record { sfits = omega (arith, h) }
 
 pub count_back : (n m : ℕ) → n ≡ m → m ≤ 2147483659 → to_z w64 n ≡ pos m
 count_back n m e h = rw e (to_z_pos w64 m (omega (arith, h)))

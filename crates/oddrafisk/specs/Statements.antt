@@ -1,23 +1,24 @@
 -- The laws of the library for other languages, each in words and then as a statement. What proves each stands in
 -- proofs/ under the statement's name in small letters: `entries_taken : EntriesTaken`.
-use Rattle.std.specs.Prelude.{ℕ, ◌≤◌, ◌≡◌, Bool, List, [], ◌∷◌, ◌++◌, ℤ, pos, length, take, get_or}
+use Rattle.std.specs.Prelude.{ℕ, ◌≤◌, ◌≡◌, Bool, List, [], ◌∷◌, ◌++◌, ℤ, pos, length, take, get_or, Result}
 use Rattle.std.proofs.Math.Option.{some}
 use Rattle.numbers.specs.Bytes.{Bytes}
 use Rattle.numbers.specs.Pick.{pick}
 use Rattle.primitives.specs.Step.{ok}
 use Rattle.records.specs.Judgement.{RecordSpans}
 use Rattle.records.specs.Rows.{Tables}
-use Rattle.writing.specs.declared.Written.{Written}
+use Rattle.asking.specs.declared.WriteFault.{WriteFault}
 use Rattle.writing.specs.Answers.{view_written}
 use Rattle.writing.specs.Promises as Writing
 use Rattle.asking.specs.Asked.{RowPlace}
 use Rattle.layout.specs.declared.ControlMode.{ControlMode}
 use Rattle.layout.specs.Batch.{Fields, Content}
 use Rattle.layout.specs.Time.{record_time}
+use Rattle.opening.specs.declared.OpenError.{OpenError}
 use Rattle.opening.specs.Judgement.{judge}
 use Rattle.batches.specs.declared.RecordBatch.{RecordBatch}
 use Rattle.batches.specs.declared.ControlBatchOrRecords.{ControlBatchOrRecords}
-use Rattle.batches.specs.declared.BatchCheck.{BatchCheck}
+use Rattle.batches.specs.declared.BatchFound.{BatchFound}
 use Rattle.batches.specs.Answers.{Kind, of_records, of_marker, Answer, accepts, view_fields, view_check, view_read, records_in, headers_of, answer_with_room, Rooms, answer_of}
 use Rattle.batches.specs.Promises as Batches
 use Rattle.batches.specs.Placed.{shown_content}
@@ -65,7 +66,7 @@ ConvertCounted =
 -- The library says what RecordBatch::check answers.
 abbrev pub ChecksAlike : Type 0
 ChecksAlike =
-    (mode : ControlMode) (s : List ℕ) (r : BatchCheck) (o : Outcome) → Batches.CheckPromise mode s r → CheckPromise mode s o
+    (mode : ControlMode) (s : List ℕ) (r : Result BatchFound OpenError) (o : Outcome) → Batches.CheckPromise mode s r → CheckPromise mode s o
     → Says (view_check r) o
 
 -- It says what RecordBatch::read answers, and fills both tables alike.
@@ -82,7 +83,7 @@ Taken e b kind = entries_asked e ≡ some (record { fields = view_fields b; want
 -- this kind, for the same codec number, tables and source.
 abbrev pub MeasuresAlike : Type 0
 MeasuresAlike =
-    (mode : ControlMode) (e : List ℤ) (b : RecordBatch) (codec : ℕ) (kind : ControlBatchOrRecords) (t : Tables) (s : List ℕ) (r : Written)
+    (mode : ControlMode) (e : List ℤ) (b : RecordBatch) (codec : ℕ) (kind : ControlBatchOrRecords) (t : Tables) (s : List ℕ) (r : Result ℕ WriteFault)
     (o : Outcome) → Taken e b kind → Batches.MeasurePromise mode b codec kind t s r → MeasurePromise mode e (pos codec) t s o
     → Sizes (view_written r) o
 

@@ -1,17 +1,17 @@
 // What numbers ask for: the mode, the entries of a batch to be written, and the time of a record.
-ghost use Rattle.std.specs.Prelude.{◌≡◌, true};
-ghost use Rattle.numbers.specs.Format.{in_bits};
+ghost use Rattle.std.specs.Prelude.{◌≡◌};
 ghost use Rattle.asking.specs.Answers.{write_number_of};
 ghost use Rattle.layout.specs.Fixed.{view_type};
 ghost use Rattle.layout.specs.Time.{view_time};
 ghost use Rattle.batches.specs.Answers.{view_fields};
-ghost use Rattle.oddrafisk.specs.Entries.{mode_of, is0or1, widths_fit, flags_fit, fields_fit, type_of, fields_of, kind_wanted, entries_asked};
+ghost use Rattle.batches.specs.Writer.{view_wanted};
+ghost use Rattle.oddrafisk.specs.Entries.{mode_of, is0or1, fields_fit, type_of, flag_of, fields_of, kind_wanted, entries_asked};
 ghost use Rattle.oddrafisk.specs.Promises.{time_for};
-ghost use Rattle.oddrafisk.specs.Words.{view_asked, view_kind_asked, wrong_number};
+ghost use Rattle.oddrafisk.specs.Words.{view_option, view_asked, when, AsksBy, wrong_number};
 
 use asking::WriteFault;
 use batches::{ControlBatchOrRecords, RecordBatch};
-use layout::{ControlMode, RecordBatchTimestampType, RecordTime};
+use layout::{ControlMode, RecordBatchTimestampType};
 use markers::ControlBatchRecord;
 
 // The number of the keyed mode.
@@ -39,27 +39,11 @@ const TIMESTAMP_TYPE: usize = 8;
 
 const IS_TRANSACTIONAL: usize = 9;
 
-pub(crate) const KIND: usize = 10;
+const KIND: usize = 10;
 
 const RECORDS: usize = 11;
 
 const RESERVED: usize = 14;
-
-// What the entries of a batch ask to be written.
-#[derive(Drop)]
-pub(crate) enum BatchAsked {
-    Got {
-        batch: RecordBatch,
-        kind: ControlBatchOrRecords,
-    },
-    Wrong,
-}
-
-#[derive(Drop)]
-enum KindAsked {
-    Got(ControlBatchOrRecords),
-    Wrong,
-}
 
 // Every other number is the bare mode's, so that each has an answer.
 pub(crate) fn mode_of(n: u32) -> ControlMode
@@ -71,151 +55,89 @@ pub(crate) fn mode_of(n: u32) -> ControlMode
     ControlMode::Bare
 }
 
-pub(crate) fn batch_asked(entries: &[i64; 16]) -> BatchAsked
-    ensures { view_asked result ≡ entries_asked entries.now }
+// The fields and the kind that are asked for, or why they are refused: the codec first.
+pub(crate) fn batch_asked(
+    mode: ControlMode,
+    entries: &[i64; 16],
+    codec: i64,
+) -> Result<(RecordBatch, ControlBatchOrRecords), WriteFault>
+    ensures { AsksBy mode entries.now codec result }
 {
-    if !fields_fit(entries) {
-        return BatchAsked::Wrong;
+    if codec != 0 {
+        return Err(WriteFault::Codec);
     }
-    match kind_asked(entries[KIND], entries[RECORDS]) {
-        KindAsked::Got(kind) => BatchAsked::Got {
-            batch: fields_asked(entries),
-            kind,
-        },
-        KindAsked::Wrong => BatchAsked::Wrong,
-    }
+    entries_asked(entries).ok_or(entries_fault(mode, entries[KIND]))
 }
 
-// Whether a batch can have such entries.
-fn fields_fit(entries: &[i64; 16]) -> bool
-    ensures { result ≡ fields_fit entries.now }
+// What the entries of a batch ask for, or nothing where there are some that no batch has.
+fn entries_asked(entries: &[i64; 16]) -> Option<(RecordBatch, ControlBatchOrRecords)>
+    ensures { view_option view_asked result ≡ entries_asked entries.now }
 {
-    if !widths_fit(entries) {
-        return false;
-    }
-    flags_fit(entries)
+    let batch = fields_asked(entries)?;
+    let kind = kind_asked(entries[KIND], entries[RECORDS])?;
+    Some((batch, kind))
 }
 
-// The fields of fewer than 64 bits.
-fn widths_fit(entries: &[i64; 16]) -> bool
-    ensures { result ≡ widths_fit entries.now }
+// Each field is of its width, and what is reserved is 0.
+fn fields_asked(entries: &[i64; 16]) -> Option<RecordBatch>
+    ensures { view_option view_fields result ≡ when (fields_fit entries.now) (fields_of entries.now) }
 {
-    if !fits_32(entries[PARTITION_LEADER_EPOCH]) {
-        return false;
+    if entries[RESERVED] != 0 || entries[RESERVED + 1] != 0 {
+        return None;
     }
-    if !fits_32(entries[LAST_OFFSET_DELTA]) {
-        return false;
-    }
-    if !fits_16(entries[PRODUCER_EPOCH]) {
-        return false;
-    }
-    fits_32(entries[BASE_SEQUENCE])
-}
-
-// Type and flag, and what is reserved.
-fn flags_fit(entries: &[i64; 16]) -> bool
-    ensures { result ≡ flags_fit entries.now }
-{
-    if !is_flag(entries[TIMESTAMP_TYPE]) {
-        return false;
-    }
-    if !is_flag(entries[IS_TRANSACTIONAL]) {
-        return false;
-    }
-    if entries[RESERVED] != 0 {
-        return false;
-    }
-    entries[RESERVED + 1] == 0
-}
-
-fn fits_32(n: i64) -> bool
-    ensures { result ≡ in_bits 32 n }
-{
-    if n < -0x8000_0000 {
-        return false;
-    }
-    n <= 0x7FFF_FFFF
-}
-
-fn fits_16(n: i64) -> bool
-    ensures { result ≡ in_bits 16 n }
-{
-    if n < -0x8000 {
-        return false;
-    }
-    n <= 0x7FFF
-}
-
-fn is_flag(n: i64) -> bool
-    ensures { result ≡ is0or1 n }
-{
-    if n == 0 {
-        return true;
-    }
-    n == 1
-}
-
-fn fields_asked(entries: &[i64; 16]) -> RecordBatch
-    requires { fields_fit entries.now ≡ true }
-    ensures { view_fields result ≡ fields_of entries.now }
-{
-    RecordBatch {
+    Some(RecordBatch {
         base_offset: entries[BASE_OFFSET],
-        partition_leader_epoch: entries[PARTITION_LEADER_EPOCH] as i32,
-        last_offset_delta: entries[LAST_OFFSET_DELTA] as i32,
+        partition_leader_epoch: i32::try_from(entries[PARTITION_LEADER_EPOCH]).ok()?,
+        last_offset_delta: i32::try_from(entries[LAST_OFFSET_DELTA]).ok()?,
         first_timestamp: entries[FIRST_TIMESTAMP],
         max_timestamp: entries[MAX_TIMESTAMP],
         producer_id: entries[PRODUCER_ID],
-        producer_epoch: entries[PRODUCER_EPOCH] as i16,
-        base_sequence: entries[BASE_SEQUENCE] as i32,
-        is_transactional: entries[IS_TRANSACTIONAL] != 0,
-        timestamp_type: type_of(entries[TIMESTAMP_TYPE]),
+        producer_epoch: i16::try_from(entries[PRODUCER_EPOCH]).ok()?,
+        base_sequence: i32::try_from(entries[BASE_SEQUENCE]).ok()?,
+        is_transactional: flag_asked(entries[IS_TRANSACTIONAL])?,
+        timestamp_type: type_asked(entries[TIMESTAMP_TYPE])?,
+    })
+}
+
+fn flag_asked(n: i64) -> Option<bool>
+    ensures { view_option (λ b. b) result ≡ when (is0or1 n) (flag_of n) }
+{
+    match n {
+        0 => Some(false),
+        1 => Some(true),
+        _ => None,
     }
 }
 
-fn type_of(n: i64) -> RecordBatchTimestampType
-    ensures { view_type result ≡ type_of n }
+fn type_asked(n: i64) -> Option<RecordBatchTimestampType>
+    ensures { view_option view_type result ≡ when (is0or1 n) (type_of n) }
 {
-    if n == 0 {
-        return RecordBatchTimestampType::CreateTime;
+    match n {
+        0 => Some(RecordBatchTimestampType::CreateTime),
+        1 => Some(RecordBatchTimestampType::LogAppendTime),
+        _ => None,
     }
-    RecordBatchTimestampType::LogAppendTime
 }
 
 // A marker needs no records, and looks at no count of them.
-fn kind_asked(kind: i64, records: i64) -> KindAsked
-    ensures { view_kind_asked result ≡ kind_wanted kind records }
+fn kind_asked(kind: i64, records: i64) -> Option<ControlBatchOrRecords>
+    ensures { view_option view_wanted result ≡ kind_wanted kind records }
 {
-    if kind == 1 {
-        return KindAsked::Got(ControlBatchOrRecords::ControlBatch(ControlBatchRecord::Abort));
+    match kind {
+        0 => Some(ControlBatchOrRecords::Records(usize::try_from(records).ok()?)),
+        1 => Some(ControlBatchOrRecords::ControlBatch(ControlBatchRecord::Abort)),
+        2 => Some(ControlBatchOrRecords::ControlBatch(ControlBatchRecord::Commit)),
+        _ => None,
     }
-    if kind == 2 {
-        return KindAsked::Got(ControlBatchOrRecords::ControlBatch(ControlBatchRecord::Commit));
-    }
-    if kind != 0 {
-        return KindAsked::Wrong;
-    }
-    if records < 0 {
-        return KindAsked::Wrong;
-    }
-    KindAsked::Got(ControlBatchOrRecords::Records(records as usize))
 }
 
 // Why entries that no batch has are refused: a marker in bare mode is refused whatever the other entries are.
-pub(crate) fn entries_fault(mode: ControlMode, kind: i64) -> WriteFault
+fn entries_fault(mode: ControlMode, kind: i64) -> WriteFault
     ensures { write_number_of result ≡ wrong_number mode kind }
 {
-    match mode {
-        ControlMode::Bare => {
-            if kind == 1 {
-                return WriteFault::BareMarker;
-            }
-            if kind == 2 {
-                return WriteFault::BareMarker;
-            }
-            WriteFault::Row
-        }
-        ControlMode::Keyed => WriteFault::Row,
+    match (mode, kind) {
+        (ControlMode::Bare, 1 | 2) => WriteFault::BareMarker,
+        _ => WriteFault::Row,
     }
 }
 
@@ -225,12 +147,9 @@ pub(crate) fn time_asked(
     first_timestamp: i64,
     max_timestamp: i64,
     delta: i64,
-) -> RecordTime
+) -> Option<i64>
     ensures { view_time result ≡ time_for timestamp_type first_timestamp max_timestamp delta }
 {
-    if !is_flag(timestamp_type) {
-        return RecordTime::NoTime;
-    }
     let batch = RecordBatch {
         base_offset: 0,
         partition_leader_epoch: 0,
@@ -241,7 +160,7 @@ pub(crate) fn time_asked(
         producer_epoch: 0,
         base_sequence: 0,
         is_transactional: false,
-        timestamp_type: type_of(timestamp_type),
+        timestamp_type: type_asked(timestamp_type)?,
     };
     batch.record_time(delta)
 }

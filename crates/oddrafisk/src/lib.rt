@@ -12,23 +12,22 @@ ghost use Rattle.oddrafisk.specs.Entries.{mode_of};
 ghost use Rattle.oddrafisk.specs.Promises.{CheckPromise, ReadPromise, entries_given, MeasurePromise, WritePromise, ConvertPromise, CanonicalPromise, RecordTimePromise, Crc32cPromise, VersionPromise};
 ghost use Rattle.oddrafisk.specs.Words.{WritesFor};
 
-use asked::{BatchAsked, KIND, batch_asked, entries_fault, mode_of, time_asked};
+use asked::{batch_asked, mode_of, time_asked};
 use asking::WriteFault;
-use batches::RecordBatch;
+use batches::{ReadError, RecordBatch};
 use converting::convert;
 use crc32c::crc32c;
-use layout::{ControlMode, RecordTime};
-use said::{conversion_number, length_of, number_of, said_of_check, said_of_read, told_of};
-use writing::Written;
+use layout::ControlMode;
+use said::{Said, conversion_number, length_of, number_of, said_of, told_of};
 
 // What the bytes begin with, by themselves.
 pub fn oddrafisk_check(mode: u32, bytes: &[u8], answer: &mut [i64; 16]) -> u32
     ensures { CheckPromise (mode_of mode) bytes.now (record { number = result; answer = answer.new }) }
 {
-    let said = said_of_check(RecordBatch::check(mode_of(mode), bytes));
-    let entries = said.entries;
+    let found = RecordBatch::check(mode_of(mode), bytes).map_err(ReadError::from);
+    let Said { number, entries } = said_of(found);
     *answer = entries;
-    said.number
+    number
 }
 
 // The same, and the rows of its records and of their headers.
@@ -41,10 +40,10 @@ pub fn oddrafisk_read(
 ) -> u32
     ensures { ReadPromise (mode_of mode) bytes.now (tables records.old headers.old) (record { said = record { number = result; answer = answer.new }; tables = tables records.new headers.new }) }
 {
-    let said = said_of_read(RecordBatch::read(mode_of(mode), bytes, records, headers));
-    let entries = said.entries;
+    let found = RecordBatch::read(mode_of(mode), bytes, records, headers);
+    let Said { number, entries } = said_of(found);
     *answer = entries;
-    said.number
+    number
 }
 
 // How many bytes a batch has when it is written.
@@ -103,10 +102,7 @@ pub fn oddrafisk_convert(bytes: &[u8], output: &mut [u8], answer: &mut [i64; 2])
 pub fn oddrafisk_is_canonical(mode: u32, bytes: &[u8]) -> u32
     ensures { CanonicalPromise (mode_of mode) bytes.now result }
 {
-    if RecordBatch::is_canonical(mode_of(mode), bytes) {
-        return 1;
-    }
-    0
+    u32::from(RecordBatch::is_canonical(mode_of(mode), bytes))
 }
 
 // The time of a record with this delta, in a batch of this type and these times; or that there is none.
@@ -120,11 +116,11 @@ pub fn oddrafisk_record_time(
     ensures { RecordTimePromise timestamp_type first_timestamp max_timestamp delta (record { number = result; answer = answer.new }) }
 {
     match time_asked(timestamp_type, first_timestamp, max_timestamp, delta) {
-        RecordTime::Time(t) => {
+        Some(t) => {
             *answer = [t];
             1
         }
-        RecordTime::NoTime => {
+        None => {
             *answer = [0];
             0
         }
@@ -153,16 +149,11 @@ fn measure_asked(
     records: &[i64],
     headers: &[i64],
     source: &[u8],
-) -> Written
+) -> Result<usize, WriteFault>
     ensures { view_written result ≡ measured (entries_given mode batch.now codec (tables records.now headers.now) source.now) }
 {
-    if codec != 0 {
-        return Written::Refused(WriteFault::Codec);
-    }
-    match batch_asked(batch) {
-        BatchAsked::Got { batch, kind } => batch.measure(mode, 0, kind, records, headers, source),
-        BatchAsked::Wrong => Written::Refused(entries_fault(mode, batch[KIND])),
-    }
+    let (fields, kind) = batch_asked(mode, batch, codec)?;
+    fields.measure(mode, 0, kind, records, headers, source)
 }
 
 fn write_asked(
@@ -173,16 +164,9 @@ fn write_asked(
     headers: &[i64],
     source: &[u8],
     output: &mut [u8],
-) -> Written
+) -> Result<usize, WriteFault>
     ensures { WritesFor mode batch.now codec (tables records.now headers.now) source.now output.old (record { result = result; output = output.new }) }
 {
-    if codec != 0 {
-        return Written::Refused(WriteFault::Codec);
-    }
-    match batch_asked(batch) {
-        BatchAsked::Got { batch, kind } => {
-            batch.write(mode, 0, kind, records, headers, source, output)
-        }
-        BatchAsked::Wrong => Written::Refused(entries_fault(mode, batch[KIND])),
-    }
+    let (fields, kind) = batch_asked(mode, batch, codec)?;
+    fields.write(mode, 0, kind, records, headers, source, output)
 }

@@ -16,19 +16,15 @@ use lib.Signed.{mag, lt_z, non_neg}
 use mir.Syntax.{w8, w32, w64}
 use mir.Val.{Fits, SFits, to_z, of_z}
 use mir.ValLaws.{to_z-of_z}
-use Rattle.primitives.specs.declared.Cursor.{Cursor}
-use Rattle.primitives.specs.declared.Fault.{Fault}
 use Rattle.primitives.specs.Step.{Step, ok, no, and_then, map_step}
 use Rattle.primitives.specs.Reading.{big, signed_by, integer_at}
 use Rattle.primitives.proofs.Steps.{and_then_ok, and_then_no, map_ok, map_no}
 use Rattle.primitives.proofs.Values.{integer_value, integer_past}
 use Rattle.layout.specs.Table.{table}
 use Rattle.opening.specs.declared.Lead.{Lead}
-use Rattle.opening.specs.declared.LeadRead.{LeadRead}
 use Rattle.opening.specs.declared.Version.{Version}
-use Rattle.opening.specs.declared.VersionRead.{VersionRead}
 use Rattle.opening.specs.Judgement.{Judged, more, refused, accepted, number_in, below}
-use Rattle.opening.specs.Opening.{lead_at, view_lead, version_at, view_version, framed, frame_at}
+use Rattle.opening.specs.Opening.{lead_at, version_at, framed, frame_at}
 use Rattle.opening.proofs.Tests.{Totals, few, low, short, unknown, lacking, there, total_is}
 use Rattle.opening.proofs.SignedTests.{bits_number, bits_other}
 
@@ -124,13 +120,13 @@ enough (negsuc k) t = absurd (true≢false t)
 frame_is : (s : List ℕ) (at : ℕ) {x : Judged ℕ} → Totals s at x → framed s at x ≡ frame_at s at
 frame_is s at {x} t = ap (framed s at) (sym (total_is s at x t))
 
-module _ (s : List ℕ) (at : ℕ) (a : LeadRead) (e : view_lead a ≡ lead_at s at) where
-  pub frame_few : (f : Fault) → a ≡ LeadRead.Refused f → more 12 ≡ frame_at s at
-  frame_few f g = frame_is s at (few (lead_past s at (sym e ∙ ap view_lead g)))
+module _ (s : List ℕ) (at : ℕ) where
+  pub frame_few : {n : ℕ} → no n ≡ lead_at s at → more 12 ≡ frame_at s at
+  frame_few e = frame_is s at (few (lead_past s at (sym e)))
 
-  module _ (x : Lead) (c : Cursor) (f : a ≡ LeadRead.Got x c) (fits : SFits w32 x.batch_length) where
-    lead : LeadIs s at x c.at
-    lead = lead_is s at (sym e ∙ ap view_lead f)
+  module _ (x : Lead) (p : ℕ) (e : ok x p ≡ lead_at s at) (fits : SFits w32 x.batch_length) where
+    lead : LeadIs s at x p
+    lead = lead_is s at (sym e)
 
     pub frame_low : lt_z (to_z w32 (of_z w32 x.batch_length)) (pos 9) ≡ true → refused 2 ≡ frame_at s at
     frame_low t =
@@ -155,44 +151,44 @@ module _ (s : List ℕ) (at : ℕ) (a : LeadRead) (e : view_lead a ≡ lead_at s
       pub total_adds : Fits w64 (12 + nat_abs (to_z w32 (of_z w32 x.batch_length)))
       total_adds = rw as_number (record { fits = omega (arith, bound) })
 
-      module _ (v : VersionRead) (e' : view_version v ≡ version_at s c.at) where
-        version_at_lem : view_version v ≡ version_at s (at + 12)
-        version_at_lem = e' ∙ ap (version_at s) lead.next
+      pub frame_short : {n : ℕ} → no n ≡ version_at s p → more 17 ≡ frame_at s at
+      frame_short g =
+          frame_is s at (short lead.within length_is long.enough (version_past s at (sym (g ∙ ap (version_at s) lead.next))))
 
-        pub frame_short : (g : Fault) → v ≡ VersionRead.Refused g → more 17 ≡ frame_at s at
-        frame_short g h = frame_is s at (short lead.within length_is long.enough (version_past s at (sym version_at_lem ∙ ap view_version h)))
+      module _ (y : Version) (q : ℕ) (f : ok y q ≡ version_at s p) where
+        version : VersionIs s at y
+        version = version_is s at (sym (f ∙ ap (version_at s) lead.next))
 
-        module _ (y : Version) (c' : Cursor) (f' : v ≡ VersionRead.Got y c') where
-          version : VersionIs s at y
-          version = version_is s at (sym version_at_lem ∙ ap view_version f')
+        pub place_within : at ≤ length s
+        place_within = omega (arith, version.within)
 
-          pub place_within : at ≤ length s
-          place_within = omega (arith, version.within)
+        pub frame_unknown : (of_z w8 y.magic ≡ 2 → ⊥) → refused 3 ≡ frame_at s at
+        frame_unknown h = frame_is s at (unknown version.within length_is long.enough (rw version.magic (bits_other w8 2 y.magic h)))
 
-          pub frame_unknown : (of_z w8 y.magic ≡ 2 → ⊥) → refused 3 ≡ frame_at s at
-          frame_unknown h = frame_is s at (unknown version.within length_is long.enough (rw version.magic (bits_other w8 2 y.magic h)))
+        module _ (m : of_z w8 y.magic ≡ 2) (fits' : SFits w8 y.magic) where
+          magic_is : number_in table.magic s at ≡ pos 2
+          magic_is = version.magic ∙ bits_number w8 2 y.magic (omega arith) fits' m
 
-          module _ (m : of_z w8 y.magic ≡ 2) (fits' : SFits w8 y.magic) where
-            magic_is : number_in table.magic s at ≡ pos 2
-            magic_is = version.magic ∙ bits_number w8 2 y.magic (omega arith) fits' m
+          total_nat : 12 + nat_abs (to_z w32 (of_z w32 x.batch_length)) ≡ 12 + long.n
+          total_nat = ap (λ (y : ℤ). 12 + nat_abs y) as_number
 
-            total_nat : 12 + nat_abs (to_z w32 (of_z w32 x.batch_length)) ≡ 12 + long.n
-            total_nat = ap (λ (y : ℤ). 12 + nat_abs y) as_number
+          pub frame_lacks : length s - at < 12 + nat_abs (to_z w32 (of_z w32 x.batch_length)) → more (12 + nat_abs (to_z w32 (of_z w32 x.batch_length))) ≡ frame_at s at
+          frame_lacks h =
+              let room : length s < at + (12 + long.n) = omega (arith, total_nat, place_within) in
+              ap more total_nat ∙ frame_is s at (lacking version.within length_is long.enough magic_is room)
 
-            pub frame_lacks : length s - at < 12 + nat_abs (to_z w32 (of_z w32 x.batch_length)) → more (12 + nat_abs (to_z w32 (of_z w32 x.batch_length))) ≡ frame_at s at
-            frame_lacks h =
-                let room : length s < at + (12 + long.n) = omega (arith, total_nat, place_within) in
-                ap more total_nat ∙ frame_is s at (lacking version.within length_is long.enough magic_is room)
+          pub frame_got : 12 + nat_abs (to_z w32 (of_z w32 x.batch_length)) ≤ length s - at → SFits w64 x.base_offset → SFits w32 y.partition_leader_epoch
+              → accepted (record {
+                base_offset = to_z w64 (of_z w64 x.base_offset);
+                partition_leader_epoch = to_z w32 (of_z w32 y.partition_leader_epoch);
+                total = 12 + nat_abs (to_z w32 (of_z w32 x.batch_length));
+              }) ≡ frame_at s at
+          frame_got h fits₁ fits₂ =
+              let room : at + (12 + long.n) ≤ length s = omega (arith, total_nat, place_within) in
+              let base = to_z-of_z w64 x.base_offset fits₁ ∙ sym lead.base_offset_lem in
+              let epoch = to_z-of_z w32 y.partition_leader_epoch fits₂ ∙ sym version.epoch in
+              (λ i. accepted (record { base_offset = base i; partition_leader_epoch = epoch i; total = total_nat i }))
+              ∙ frame_is s at (there version.within length_is long.enough magic_is room)
 
-            pub frame_got : 12 + nat_abs (to_z w32 (of_z w32 x.batch_length)) ≤ length s - at → SFits w64 x.base_offset → SFits w32 y.partition_leader_epoch
-                → accepted (record {
-                  base_offset = to_z w64 (of_z w64 x.base_offset);
-                  partition_leader_epoch = to_z w32 (of_z w32 y.partition_leader_epoch);
-                  total = 12 + nat_abs (to_z w32 (of_z w32 x.batch_length));
-                }) ≡ frame_at s at
-            frame_got h fits₁ fits₂ =
-                let room : at + (12 + long.n) ≤ length s = omega (arith, total_nat, place_within) in
-                let base = to_z-of_z w64 x.base_offset fits₁ ∙ sym lead.base_offset_lem in
-                let epoch = to_z-of_z w32 y.partition_leader_epoch fits₂ ∙ sym version.epoch in
-                (λ i. accepted (record { base_offset = base i; partition_leader_epoch = epoch i; total = total_nat i }))
-                ∙ frame_is s at (there version.within length_is long.enough magic_is room)
+-- what `read_frame` is proved by
+pub ruleset frames = (frame_few, frame_low, frame_short, frame_unknown, total_casts, total_adds, place_within, frame_lacks, frame_got)

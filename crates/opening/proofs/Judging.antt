@@ -8,29 +8,19 @@ use native.Mathlib.Omega.{arith}
 use lib.Dec.{eqb}
 use lib.ListN.{length, take, drop, length-take}
 use lib.Seq.{length-take-le}
-use mir.Syntax.{w32, w64}
-use mir.Val.{SFits, to_z, of_z}
-use mir.ValLaws.{to_z-of_z}
 use Rattle.numbers.specs.Pick.{pick}
-use Rattle.primitives.specs.declared.Cursor.{Cursor}
 use Rattle.primitives.specs.Step.{Step, ok, no, and_then, map_step}
 use Rattle.primitives.specs.Reading.{signed_by}
 use Rattle.primitives.proofs.Picks.{picked}
 use Rattle.primitives.proofs.Steps.{map_ok}
 use Rattle.primitives.proofs.Windows.{big_window}
 use Rattle.crc32c.specs.Crc.{crc32c}
-use Rattle.layout.specs.declared.BatchFields.{BatchFields}
 use Rattle.layout.specs.Table.{table}
 use Rattle.layout.specs.Batch.{Fields}
-use Rattle.layout.specs.Fixed.{view_batch_fields}
-use Rattle.opening.specs.declared.BatchFault.{BatchFault}
 use Rattle.opening.specs.declared.Frame.{Frame}
-use Rattle.opening.specs.declared.FrameRead.{FrameRead}
-use Rattle.opening.specs.declared.Opening.{Opening}
 use Rattle.opening.specs.Judgement.{Judged, more, refused, accepted, unsigned_in, attributes_in, fields_in, total_at, opened_at, Control, content_at, whole_at, judgement_of, judge_whole, judge_with}
-use Rattle.opening.specs.Answers.{batch_number_of}
 use Rattle.opening.specs.Opened.{Known, known_in, KnownAt, known_at, open_by, open_at, as_accepted, judged_from}
-use Rattle.opening.specs.Opening.{framed, frame_at, view_frame, opening_at, view_opening, open_from}
+use Rattle.opening.specs.Opening.{framed, frame_at, opening_at, open_from}
 use Rattle.opening.specs.Statements.{JudgedByOpening, Inside, OpenedInside}
 use Rattle.opening.proofs.Verdicts.{more_not_accepted, refused_not_accepted, same_accepted}
 use Rattle.opening.proofs.Tests.{Totals, few, low, short, unknown, lacking, there, totals, Openings, opened, openings}
@@ -82,36 +72,18 @@ total_known s at y (there {n} h l m g r) = opening_known s at (12 + n) (omega ar
 open_known : (s : List ℕ) (at : ℕ) → open_from s at (frame_at s at) ≡ open_at s at
 open_known s at = total_known s at (total_at s at) (totals s at)
 
-module _ (s : List ℕ) (at : ℕ) (a : FrameRead) (e : view_frame a ≡ frame_at s at) where
-  pub opened_more : (n : ℕ) → a ≡ FrameRead.MoreBytes n → more n ≡ open_at s at
-  opened_more n g = ap (open_from s at) (sym (ap view_frame g) ∙ e) ∙ open_known s at
+module _ (s : List ℕ) (at : ℕ) (x : Frame) (e : accepted x ≡ frame_at s at) where
+  pub frame_within : Within s at x.total
+  frame_within = total_within s at (total_at s at) x (totals s at) (sym e)
 
-  pub opened_refused : (f : BatchFault) → a ≡ FrameRead.Refused f → refused (batch_number_of f) ≡ open_at s at
-  opened_refused f g = ap (open_from s at) (sym (ap view_frame g) ∙ e) ∙ open_known s at
+  pub frame_inside : at + 21 ≤ length (take (at + x.total) s)
+  frame_inside = rw length-take (omega (arith, frame_within.end, frame_within.least))
 
-  module _ (x : Frame) (f : a ≡ FrameRead.Got x) where
-    pub frame_within : Within s at x.total
-    frame_within = total_within s at (total_at s at) x (totals s at) (sym e ∙ ap view_frame f)
+  pub opened_as : known_at x.total (opening_at x.base_offset x.partition_leader_epoch (take (at + x.total) s) at) ≡ open_at s at
+  opened_as = ap (open_from s at) e ∙ open_known s at
 
-    pub frame_inside : at + 21 ≤ length (take (at + x.total) s)
-    frame_inside = rw length-take (omega (arith, frame_within.end, frame_within.least))
-
-    opened_as : (r : Step ℕ Known) → r ≡ opening_at x.base_offset x.partition_leader_epoch (take (at + x.total) s) at
-        → known_at x.total r ≡ open_at s at
-    opened_as r g = ap (known_at x.total) g ∙ ap (open_from s at) (sym (ap view_frame f) ∙ e) ∙ open_known s at
-
-    module _ (fits : SFits w64 x.base_offset) (fits' : SFits w32 x.partition_leader_epoch) (r : Opening)
-        (g : view_opening r ≡ opening_at (to_z w64 (of_z w64 x.base_offset)) (to_z w32 (of_z w32 x.partition_leader_epoch)) (take (at + x.total) s) at) where
-      opening : view_opening r ≡ opening_at x.base_offset x.partition_leader_epoch (take (at + x.total) s) at
-      opening = g ∙ (λ i. opening_at (to_z-of_z w64 x.base_offset fits i) (to_z-of_z w32 x.partition_leader_epoch fits' i) (take (at + x.total) s) at)
-
-      pub opened_not : (h : BatchFault) → r ≡ Opening.Refused h → refused (batch_number_of h) ≡ open_at s at
-      opened_not h i = opened_as (no (batch_number_of h)) (sym (ap view_opening i) ∙ opening)
-
-      pub opened_got : (b : BatchFields) (control : Bool) (n : ℕ) (next : Cursor) → r ≡ Opening.Got b control n next
-          → accepted (record { known = record { fields = view_batch_fields b; control = control; count = n }; next = next.at; total = x.total }) ≡ open_at s at
-      opened_got b control n next i =
-          opened_as (ok (record { fields = view_batch_fields b; control = control; count = n }) next.at) (sym (ap view_opening i) ∙ opening)
+-- what `open_at` is proved by
+pub ruleset opens = (cut_length, frame_within, frame_inside, opened_as)
 
 -- ---- the judgement, from what was opened
 

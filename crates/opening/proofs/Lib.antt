@@ -1,5 +1,4 @@
 mod Checked
-mod FieldSteps
 mod Fields
 pub mod FixedFaults
 mod Frames

@@ -1,8 +1,9 @@
 -- Each promise admits a single answer: from what the answer says it can be made again. Assumes nothing.
 use Prim.Native.Nat.{ℕ}
-use mathlib.Core.Path.{◌≡◌, refl}
+use mathlib.Core.Path.{◌≡◌, refl, ap}
 use mathlib.Core.List.{List}
 use lib.Dec.{eqb}
+use Rattle.std.proofs.Common.{Result, Ok, Err}
 use Rattle.primitives.specs.declared.Fault.TheVariants.{PastEnd, BeyondLimits, NegativeLength}
 use Rattle.numbers.specs.Pick.{pick}
 use Rattle.numbers.specs.Single.{Single}
@@ -12,9 +13,10 @@ use Rattle.records.specs.declared.RecordFault.TheVariants.{Field, KeyNotUtf8, By
 use Rattle.layout.proofs.Single.{fields, fields_again}
 use Rattle.opening.specs.declared.BatchFault.{BatchFault}
 use Rattle.opening.specs.declared.Opened.{Opened}
+use Rattle.opening.specs.declared.OpenError.{OpenError}
 use Rattle.opening.specs.Judgement.{Judged, more, refused, accepted}
 use Rattle.opening.specs.Opened.{KnownAt}
-use Rattle.opening.specs.Answers.{batch_number_of, view_opened}
+use Rattle.opening.specs.Answers.{batch_number_of, view_judged, view_known_at}
 use Rattle.opening.specs.Promises.{BatchNumberPromise, OpenAtPromise}
 
 pub single_batch_number : (f : BatchFault) → Single (BatchNumberPromise f)
@@ -62,16 +64,36 @@ refusal_again lacking short by (BatchFault.Body BytesLeft) = refl
 
 -- ---- what is known, made from what is said
 
-abbrev opened : Judged KnownAt → Opened
-opened (more n) = Opened.MoreBytes n
-opened (refused n) = refusal (Opened.MoreBytes 0) (Opened.MoreBytes 0) Opened.Refused n
-opened (accepted o) =
-    Opened.Got (fields o.known.fields) o.known.control o.known.count (record { at = o.next }) o.total
+abbrev fault_in : ℕ → OpenError
+fault_in n = refusal (OpenError.MoreBytes 0) (OpenError.MoreBytes 0) OpenError.Refused n
 
-opened_again : (r : Opened) → opened (view_opened r) ≡ r
-opened_again (Opened.Got x control n next total) = λ i. Opened.Got (fields_again x i) control n next total
-opened_again (Opened.MoreBytes n) = refl
-opened_again (Opened.Refused f) = refusal_again _ _ Opened.Refused f
+module _ {A B : Type 0} (value : A → B) (of : B → A) (again : (a : A) → of (value a) ≡ a) where
+  abbrev back : Judged B → Result A OpenError
+  back (more n) = Err (OpenError.MoreBytes n)
+  back (refused n) = Err (fault_in n)
+  back (accepted b) = Ok (of b)
+
+  view_back : (r : Result A OpenError) → back (view_judged value r) ≡ r
+  view_back (Ok a) = ap Ok (again a)
+  view_back (Err (OpenError.MoreBytes n)) = refl
+  view_back (Err (OpenError.Refused f)) = ap Err (refusal_again _ _ OpenError.Refused f)
+
+  pub single_judged_by : (x : Judged B) → Single (λ r. view_judged value r ≡ x)
+  single_judged_by = single_view (view_judged value) back view_back
+
+abbrev opened : KnownAt → Opened
+opened o =
+    record {
+      fields = fields o.known.fields;
+      is_control = o.known.control;
+      count = o.known.count;
+      next = record { at = o.next };
+      total = o.total;
+    }
+
+opened_again : (x : Opened) → opened (view_known_at x) ≡ x
+opened_again x =
+    λ i. record { fields = fields_again x.fields i; is_control = x.is_control; count = x.count; next = x.next; total = x.total }
 
 pub single_open_at : (s : List ℕ) (at : ℕ) → Single (OpenAtPromise s at)
-single_open_at s at = single_view view_opened opened opened_again _
+single_open_at s at = single_judged_by view_known_at opened opened_again _

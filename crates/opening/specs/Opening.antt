@@ -1,31 +1,27 @@
 -- Words of private contracts: none of them stands in a promise. The fixed fields as they are read, one after the other.
-use Rattle.std.specs.Prelude.{ℕ, ◌+◌, ◌%◌, List, eqb, ltb, ℤ, pos, negsuc, take, drop}
+use Rattle.std.specs.Prelude.{ℕ, ◌≡◌, Result, Ok, Err, ◌+◌, ◌%◌, List, eqb, ltb, ℤ, take, drop}
+use Rattle.numbers.specs.declared.Int16.{Int16}
 use Rattle.numbers.specs.Pick.{pick}
+use Rattle.numbers.specs.Format.{complement}
 use Rattle.primitives.specs.Step.{Step, ok, no, and_then, map_step}
 use Rattle.primitives.specs.Reading.{unsigned_at, integer_at}
-use Rattle.primitives.specs.Answers.{number_of}
 use Rattle.crc32c.specs.Crc.{crc32c}
 use Rattle.layout.specs.declared.Times.{Times}
 use Rattle.layout.specs.declared.Producer.{Producer}
 use Rattle.layout.specs.Table.{table}
 use Rattle.layout.specs.Batch.{Fields}
-use Rattle.layout.specs.Fixed.{view_type, view_batch_fields}
+use Rattle.layout.specs.Fixed.{view_type}
 use Rattle.opening.specs.declared.Lead.{Lead}
-use Rattle.opening.specs.declared.LeadRead.{LeadRead}
 use Rattle.opening.specs.declared.Version.{Version}
-use Rattle.opening.specs.declared.VersionRead.{VersionRead}
 use Rattle.opening.specs.declared.Frame.{Frame}
-use Rattle.opening.specs.declared.FrameRead.{FrameRead}
+use Rattle.opening.specs.declared.RecordBatchCompression.{RecordBatchCompression}
 use Rattle.opening.specs.declared.Attributes.{Attributes}
-use Rattle.opening.specs.declared.AttributesRead.{AttributesRead}
-use Rattle.opening.specs.declared.TimesRead.{TimesRead}
-use Rattle.opening.specs.declared.ProducerRead.{ProducerRead}
-use Rattle.opening.specs.declared.CountRead.{CountRead}
-use Rattle.opening.specs.declared.Opening.{Opening}
+use Rattle.opening.specs.declared.BatchFault.{BatchFault}
+use Rattle.opening.specs.declared.Opened.{Opened}
 use Rattle.opening.specs.Judgement.{Judged, more, refused, accepted, unsigned_in, number_in, apart, attributes_in, fields_in, total_at, count_of, opened_at}
 use Rattle.opening.specs.Judgement as Judgement
 use Rattle.opening.specs.Opened.{Known, KnownAt, known_at}
-use Rattle.opening.specs.Answers.{batch_number_of}
+use Rattle.opening.specs.Answers.{batch_number_of, view_made, view_known_at}
 
 -- ---- base offset and batchLength; leader epoch and magic
 
@@ -34,18 +30,10 @@ lead_at s at =
     and_then (integer_at 8 s at) (λ base p.
     map_step (λ n. record { base_offset = base; batch_length = n }) (integer_at 4 s p))
 
-abbrev pub view_lead : LeadRead → Step ℕ Lead
-view_lead (LeadRead.Got x c) = ok x c.at
-view_lead (LeadRead.Refused f) = no (number_of f)
-
 unfoldable pub version_at : List ℕ → ℕ → Step ℕ Version
 version_at s at =
     and_then (integer_at 4 s at) (λ epoch p.
     map_step (λ m. record { partition_leader_epoch = epoch; magic = m }) (integer_at 1 s p))
-
-abbrev pub view_version : VersionRead → Step ℕ Version
-view_version (VersionRead.Got x c) = ok x c.at
-view_version (VersionRead.Refused f) = no (number_of f)
 
 -- ---- the batch's length and magic, with the two fields that stand beside them
 
@@ -63,28 +51,37 @@ framed s at (accepted n) =
 abbrev pub frame_at : List ℕ → ℕ → Judged Frame
 frame_at s at = framed s at (total_at s at)
 
-abbrev pub view_frame : FrameRead → Judged Frame
-view_frame (FrameRead.Got x) = accepted x
-view_frame (FrameRead.MoreBytes n) = more n
-view_frame (FrameRead.Refused f) = refused (batch_number_of f)
-
 -- ---- the fixed fields under the checksum
+
+abbrev pub codec_of : RecordBatchCompression → ℕ
+codec_of RecordBatchCompression.NoCompression = 0
+codec_of RecordBatchCompression.Gzip = 1
+codec_of RecordBatchCompression.Snappy = 2
+codec_of RecordBatchCompression.Lz4 = 3
+codec_of RecordBatchCompression.Zstd = 4
+
+-- a codec, by its number
+abbrev pub Coded : ℕ → Result RecordBatchCompression BatchFault → Type 0
+Coded n r = (p : ℕ) → view_made codec_of p r ≡ pick (ltb 4 n) (no 5) (ok n p)
 
 abbrev pub view_attributes : Attributes → Judgement.Attributes
 view_attributes a =
     record {
-      codec = a.codec;
+      codec = codec_of a.compression;
       timestamp_type = view_type a.timestamp_type;
       transactional = a.is_transactional;
       control = a.is_control;
     }
 
-unfoldable pub attributes_at : List ℕ → ℕ → Step ℕ Judgement.Attributes
-attributes_at s at = and_then (unsigned_at 2 s at) (λ a p. pick (ltb 4 (a % 8)) (no 5) (ok (apart a) p))
+abbrev pub attributes_by : ℕ → ℕ → Step ℕ Judgement.Attributes
+attributes_by a p = pick (ltb 4 (a % 8)) (no 5) (ok (apart a) p)
 
-abbrev pub view_attributes_read : AttributesRead → Step ℕ Judgement.Attributes
-view_attributes_read (AttributesRead.Got a c) = ok (view_attributes a) c.at
-view_attributes_read (AttributesRead.Refused f) = no (batch_number_of f)
+-- attributes, by the number that they are
+abbrev pub SaysAttributes : Int16 → Result Attributes BatchFault → Type 0
+SaysAttributes raw r = (p : ℕ) → view_made view_attributes p r ≡ attributes_by (complement 16 raw.0) p
+
+unfoldable pub attributes_at : List ℕ → ℕ → Step ℕ Judgement.Attributes
+attributes_at s at = and_then (unsigned_at 2 s at) attributes_by
 
 unfoldable pub times_at : List ℕ → ℕ → Step ℕ Times
 times_at s at =
@@ -92,30 +89,14 @@ times_at s at =
     and_then (integer_at 8 s p) (λ first q.
     map_step (λ max. record { last_offset_delta = delta; first_timestamp = first; max_timestamp = max }) (integer_at 8 s q)))
 
-abbrev pub view_times : TimesRead → Step ℕ Times
-view_times (TimesRead.Got x c) = ok x c.at
-view_times (TimesRead.Refused f) = no (number_of f)
-
 unfoldable pub producer_at : List ℕ → ℕ → Step ℕ Producer
 producer_at s at =
     and_then (integer_at 8 s at) (λ id p.
     and_then (integer_at 2 s p) (λ epoch q.
     map_step (λ sequence. record { id = id; epoch = epoch; base_sequence = sequence }) (integer_at 4 s q)))
 
-abbrev pub view_producer : ProducerRead → Step ℕ Producer
-view_producer (ProducerRead.Got x c) = ok x c.at
-view_producer (ProducerRead.Refused f) = no (number_of f)
-
-abbrev pub at_least0 : ℤ → ℕ
-at_least0 (pos n) = n
-at_least0 (negsuc k) = 0
-
 unfoldable pub count_at : Judgement.Attributes → List ℕ → ℕ → Step ℕ ℕ
 count_at a s at = and_then (integer_at 4 s at) (count_of a)
-
-abbrev pub view_count_read : CountRead → Step ℕ ℕ
-view_count_read (CountRead.Got n c) = ok n c.at
-view_count_read (CountRead.Refused f) = no (batch_number_of f)
 
 -- ---- the opening: all that is known before the marker or the records
 
@@ -164,9 +145,9 @@ opening_at base epoch s at =
     (map_step (λ n. record { fields = fields_beside base epoch s at; control = (attributes_in s at).control; count = n }) (opened_at s at))
     (no 4)
 
-abbrev pub view_opening : Opening → Step ℕ Known
-view_opening (Opening.Got b control n next) = ok (record { fields = view_batch_fields b; control = control; count = n }) next.at
-view_opening (Opening.Refused f) = no (batch_number_of f)
+abbrev pub view_open : Result Opened BatchFault → Judged KnownAt
+view_open (Ok x) = accepted (view_known_at x)
+view_open (Err f) = refused (batch_number_of f)
 
 -- the same with the bytes of the batch, once length and magic have been met
 abbrev pub open_from : List ℕ → ℕ → Judged Frame → Judged KnownAt

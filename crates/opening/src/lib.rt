@@ -3,19 +3,24 @@
 
 ghost use Rattle.std.specs.Prelude.{◌+◌, ◌≤◌, ◌≡◌, eqb, length, drop};
 ghost use Rattle.numbers.specs.Pick.{pick};
-ghost use Rattle.numbers.specs.Format.{complement};
+ghost use Rattle.primitives.specs.Answers.{number_of, view_read};
 ghost use Rattle.crc32c.specs.Crc.{crc32c as sum_of};
 ghost use Rattle.layout.specs.Table.{table};
 ghost use Rattle.layout.specs.Batch.{create_time, log_append_time};
-ghost use Rattle.layout.specs.Fixed.{view_type, view_batch_fields};
-ghost use Rattle.opening.specs.Judgement.{unsigned_in, apart};
-ghost use Rattle.opening.specs.Opening.{lead_at, view_lead, version_at, view_version, frame_at, view_frame, view_attributes, attributes_at, view_attributes_read, times_at, view_times, producer_at, view_producer, at_least0, count_at, view_count_read, fields_from, checked_at, opening_at, view_opening};
+ghost use Rattle.layout.specs.Fixed.{view_type};
+ghost use Rattle.records.specs.declared.RecordFault.TheVariants.{Field};
+ghost use Rattle.opening.specs.declared.BatchFault.TheVariants.{Body};
+ghost use Rattle.opening.specs.declared.OpenError.TheVariants.{Refused};
+ghost use Rattle.opening.specs.Judgement.{unsigned_in};
+ghost use Rattle.opening.specs.Opened.{known_at};
+ghost use Rattle.opening.specs.Opening.{lead_at, version_at, frame_at, Coded, view_attributes, SaysAttributes, attributes_at, times_at, producer_at, count_at, checked_at, opening_at, view_open};
+ghost use Rattle.opening.specs.Answers.{batch_number_of, view_judged};
 ghost use Rattle.opening.specs.Promises.{BatchNumberPromise, OpenAtPromise};
 
 use crc32c::crc32c;
 use layout::{BatchFields, Producer, RecordBatchTimestampType, Times};
 use numbers::Int16;
-use primitives::{Cursor, Fault, Int8Read, Int16Read, Int32Read, Int64Read, Uint32Read};
+use primitives::{Cursor, Fault};
 use records::RecordFault;
 
 // Why a batch is refused.
@@ -40,22 +45,10 @@ struct Lead {
     batch_length: i32,
 }
 
-#[derive(Drop)]
-enum LeadRead {
-    Got(Lead, Cursor),
-    Refused(Fault),
-}
-
 #[derive(Clone, Copy)]
 struct Version {
     partition_leader_epoch: i32,
     magic: i8,
-}
-
-#[derive(Drop)]
-enum VersionRead {
-    Got(Version, Cursor),
-    Refused(Fault),
 }
 
 // What is known of a batch once its length and magic have been met and all its bytes are there.
@@ -66,71 +59,65 @@ struct Frame {
     total: usize,
 }
 
-#[derive(Drop)]
-enum FrameRead {
-    Got(Frame),
-    MoreBytes(usize),
-    Refused(BatchFault),
+// How records are compressed: the codecs that Kafka's page has.
+#[derive(Clone, Copy, PartialEq, Eq)]
+enum RecordBatchCompression {
+    NoCompression,
+    Gzip,
+    Snappy,
+    Lz4,
+    Zstd,
 }
 
 // What the attributes say.
 #[derive(Clone, Copy)]
 struct Attributes {
-    codec: u8,
+    compression: RecordBatchCompression,
     timestamp_type: RecordBatchTimestampType,
     is_transactional: bool,
     is_control: bool,
 }
 
-#[derive(Drop)]
-enum AttributesRead {
-    Got(Attributes, Cursor),
-    Refused(BatchFault),
+// What is known of a batch before its marker or its records, how many records it has, the place after the fixed fields
+// and the bytes of the batch.
+#[derive(Clone, Copy)]
+pub struct Opened {
+    pub fields: BatchFields,
+    pub is_control: bool,
+    pub count: usize,
+    pub next: Cursor,
+    pub total: usize,
 }
 
-#[derive(Drop)]
-enum TimesRead {
-    Got(Times, Cursor),
-    Refused(Fault),
-}
-
-#[derive(Drop)]
-enum ProducerRead {
-    Got(Producer, Cursor),
-    Refused(Fault),
-}
-
-// How many records there are.
-#[derive(Drop)]
-enum CountRead {
-    Got(usize, Cursor),
-    Refused(BatchFault),
-}
-
-// What is known of a batch before its marker or its records.
-#[derive(Drop)]
-enum Opening {
-    Got {
-        fields: BatchFields,
-        is_control: bool,
-        count: usize,
-        next: Cursor,
-    },
-    Refused(BatchFault),
-}
-
-// The same with the bytes of the batch; or how many bytes are needed, counted from its first; or why it is refused.
-#[derive(Drop)]
-pub enum Opened {
-    Got {
-        fields: BatchFields,
-        is_control: bool,
-        count: usize,
-        next: Cursor,
-        total: usize,
-    },
+// Why nothing is known: more bytes are needed, as many in all, counted from the batch's first; or it is refused.
+#[derive(Clone, Copy)]
+pub enum OpenError {
     MoreBytes(usize),
     Refused(BatchFault),
+}
+
+impl From<Fault> for BatchFault {
+    ghost from_gives = { λ f r. r ≡ Body (Field f) };
+
+    fn from(f: Fault) -> BatchFault {
+        BatchFault::Body(RecordFault::Field(f))
+    }
+}
+
+impl From<RecordFault> for BatchFault {
+    ghost from_gives = { λ f r. r ≡ Body f };
+
+    fn from(f: RecordFault) -> BatchFault {
+        BatchFault::Body(f)
+    }
+}
+
+impl From<BatchFault> for OpenError {
+    ghost from_gives = { λ f r. r ≡ Refused f };
+
+    fn from(f: BatchFault) -> OpenError {
+        OpenError::Refused(f)
+    }
 }
 
 impl BatchFault {
@@ -154,131 +141,104 @@ impl BatchFault {
 
 // All that is judged before the marker or the records. Once length and magic have been met, no byte after the batch is
 // looked at.
-pub fn open_at(bytes: &[u8], at: usize) -> Opened
+#[tactic(auto, using(crate::proofs::Judging::opens))]
+pub fn open_at(bytes: &[u8], at: usize) -> Result<Opened, OpenError>
     ensures { OpenAtPromise bytes.now at result }
 {
-    match read_frame(bytes, at) {
-        FrameRead::Got(frame) => {
-            let total = frame.total;
-            let base_offset = frame.base_offset;
-            let partition_leader_epoch = frame.partition_leader_epoch;
-            let end = at + total;
-            match open(&bytes[..end], at, base_offset, partition_leader_epoch) {
-                Opening::Got {
-                    fields,
-                    is_control,
-                    count,
-                    next,
-                } => Opened::Got {
-                    fields,
-                    is_control,
-                    count,
-                    next,
-                    total,
-                },
-                Opening::Refused(f) => Opened::Refused(f),
-            }
-        }
-        FrameRead::MoreBytes(n) => Opened::MoreBytes(n),
-        FrameRead::Refused(f) => Opened::Refused(f),
-    }
+    let frame = read_frame(bytes, at)?;
+    let end = at + frame.total;
+    let opened = open(&bytes[..end], at, frame)?;
+    Ok(opened)
 }
 
-fn read_lead(s: &[u8], c: Cursor) -> LeadRead
-    ensures { view_lead result ≡ lead_at s.now c.at }
+#[tactic(auto, unfolding(crate::specs::Opening::lead_at))]
+fn read_lead(s: &[u8], c: Cursor) -> Result<(Lead, Cursor), Fault>
+    ensures { view_read number_of (λ x. x) result ≡ lead_at s.now c.at }
 {
-    match c.read_int64(s) {
-        Int64Read::Got(base_offset, at_length) => match at_length.read_int32(s) {
-            Int32Read::Got(batch_length, next) => {
-                let base_offset = base_offset.0;
-                let batch_length = batch_length.0;
-                LeadRead::Got(
-                    Lead {
-                        base_offset,
-                        batch_length,
-                    },
-                    next,
-                )
-            }
-            Int32Read::Refused(f) => LeadRead::Refused(f),
-        },
-        Int64Read::Refused(f) => LeadRead::Refused(f),
-    }
+    let (base_offset, at_length) = c.read_int64(s)?;
+    let (batch_length, next) = at_length.read_int32(s)?;
+    let lead = Lead {
+        base_offset: base_offset.0,
+        batch_length: batch_length.0,
+    };
+    Ok((lead, next))
 }
 
-fn read_version(s: &[u8], c: Cursor) -> VersionRead
-    ensures { view_version result ≡ version_at s.now c.at }
+#[tactic(auto, unfolding(crate::specs::Opening::version_at))]
+fn read_version(s: &[u8], c: Cursor) -> Result<(Version, Cursor), Fault>
+    ensures { view_read number_of (λ x. x) result ≡ version_at s.now c.at }
 {
-    match c.read_int32(s) {
-        Int32Read::Got(partition_leader_epoch, at_magic) => match at_magic.read_int8(s) {
-            Int8Read::Got(magic, next) => {
-                let partition_leader_epoch = partition_leader_epoch.0;
-                let magic = magic.0;
-                VersionRead::Got(
-                    Version {
-                        partition_leader_epoch,
-                        magic,
-                    },
-                    next,
-                )
-            }
-            Int8Read::Refused(f) => VersionRead::Refused(f),
-        },
-        Int32Read::Refused(f) => VersionRead::Refused(f),
-    }
+    let (partition_leader_epoch, at_magic) = c.read_int32(s)?;
+    let (magic, next) = at_magic.read_int8(s)?;
+    let version = Version {
+        partition_leader_epoch: partition_leader_epoch.0,
+        magic: magic.0,
+    };
+    Ok((version, next))
 }
 
 // Length and magic are judged as soon as they are there, before any later byte is asked for.
-fn read_frame(s: &[u8], at: usize) -> FrameRead
-    ensures { view_frame result ≡ frame_at s.now at }
+#[tactic(auto, using(crate::proofs::Frames::frames))]
+fn read_frame(s: &[u8], at: usize) -> Result<Frame, OpenError>
+    ensures { view_judged (λ x. x) result ≡ frame_at s.now at }
 {
-    match read_lead(s, Cursor { at }) {
-        LeadRead::Got(lead, next) => {
-            let batch_length = lead.batch_length;
-            if batch_length < BatchFields::UNCHECKED as i32 {
-                return FrameRead::Refused(BatchFault::LengthTooSmall);
-            }
-            let total = BatchFields::UNCOUNTED + batch_length as usize;
-            match read_version(s, next) {
-                VersionRead::Got(version, _) => {
-                    if version.magic != BatchFields::MAGIC {
-                        return FrameRead::Refused(BatchFault::UnknownMagic);
-                    }
-                    if s.len() - at < total {
-                        return FrameRead::MoreBytes(total);
-                    }
-                    let base_offset = lead.base_offset;
-                    let partition_leader_epoch = version.partition_leader_epoch;
-                    FrameRead::Got(Frame {
-                        base_offset,
-                        partition_leader_epoch,
-                        total,
-                    })
-                }
-                VersionRead::Refused(_) => FrameRead::MoreBytes(BatchFields::THROUGH_MAGIC),
-            }
+    let Ok((lead, next)) = read_lead(s, Cursor { at }) else {
+        return Err(OpenError::MoreBytes(BatchFields::UNCOUNTED));
+    };
+    if lead.batch_length < BatchFields::UNCHECKED as i32 {
+        return Err(OpenError::Refused(BatchFault::LengthTooSmall));
+    }
+    let total = BatchFields::UNCOUNTED + lead.batch_length as usize;
+    let Ok((version, _)) = read_version(s, next) else {
+        return Err(OpenError::MoreBytes(BatchFields::THROUGH_MAGIC));
+    };
+    if version.magic != BatchFields::MAGIC {
+        return Err(OpenError::Refused(BatchFault::UnknownMagic));
+    }
+    if s.len() - at < total {
+        return Err(OpenError::MoreBytes(total));
+    }
+    Ok(Frame {
+        base_offset: lead.base_offset,
+        partition_leader_epoch: version.partition_leader_epoch,
+        total,
+    })
+}
+
+impl TryFrom<u8> for RecordBatchCompression {
+    type Error = BatchFault;
+
+    ghost try_from_gives = { Coded };
+
+    fn try_from(codec: u8) -> Result<RecordBatchCompression, BatchFault> {
+        match codec {
+            0 => Ok(RecordBatchCompression::NoCompression),
+            1 => Ok(RecordBatchCompression::Gzip),
+            2 => Ok(RecordBatchCompression::Snappy),
+            3 => Ok(RecordBatchCompression::Lz4),
+            4 => Ok(RecordBatchCompression::Zstd),
+            _ => Err(BatchFault::UnknownCodec),
         }
-        LeadRead::Refused(_) => FrameRead::MoreBytes(BatchFields::UNCOUNTED),
     }
 }
 
-impl Attributes {
-    // The last codec that Kafka's page has.
-    const LAST_CODEC: u8 = 4;
-}
-
 // Bits 0 to 5 are the lower byte's. Higher bits are ignored.
-fn attributes_of(raw: Int16) -> Attributes
-    ensures { view_attributes result ≡ apart (complement 16 raw.0) }
-{
-    let bytes = raw.to_be_bytes();
-    let low = bytes[1];
-    let timestamp_type = timestamp_type_of(low / 8 % 2 == 1);
-    Attributes {
-        codec: low % 8,
-        timestamp_type,
-        is_transactional: low / 16 % 2 == 1,
-        is_control: low / 32 % 2 == 1,
+impl TryFrom<Int16> for Attributes {
+    type Error = BatchFault;
+
+    ghost try_from_gives = { SaysAttributes };
+
+    fn try_from(raw: Int16) -> Result<Attributes, BatchFault> {
+        let bytes = raw.to_be_bytes();
+        let low = bytes[1];
+        let compression = RecordBatchCompression::try_from(low % 8)?;
+        let timestamp_type = timestamp_type_of(low / 8 % 2 == 1);
+        Ok(Attributes {
+            compression,
+            timestamp_type,
+            is_transactional: low / 16 % 2 == 1,
+            is_control: low / 32 % 2 == 1,
+        })
     }
 }
 
@@ -293,124 +253,78 @@ fn timestamp_type_of(log_append: bool) -> RecordBatchTimestampType
 }
 
 // An unknown codec is met here, whatever follows.
-fn read_attributes(s: &[u8], c: Cursor) -> AttributesRead
-    ensures { view_attributes_read result ≡ attributes_at s.now c.at }
+fn read_attributes(s: &[u8], c: Cursor) -> Result<(Attributes, Cursor), BatchFault>
+    ensures { view_read batch_number_of view_attributes result ≡ attributes_at s.now c.at }
 {
-    match c.read_int16(s) {
-        Int16Read::Got(raw, next) => {
-            let attributes = attributes_of(raw);
-            if Attributes::LAST_CODEC < attributes.codec {
-                return AttributesRead::Refused(BatchFault::UnknownCodec);
-            }
-            AttributesRead::Got(attributes, next)
-        }
-        Int16Read::Refused(f) => AttributesRead::Refused(BatchFault::Body(RecordFault::Field(f))),
-    }
+    let (raw, next) = c.read_int16(s)?;
+    let attributes = Attributes::try_from(raw)?;
+    Ok((attributes, next))
 }
 
-fn read_times(s: &[u8], c: Cursor) -> TimesRead
-    ensures { view_times result ≡ times_at s.now c.at }
+#[tactic(auto, unfolding(crate::specs::Opening::times_at))]
+fn read_times(s: &[u8], c: Cursor) -> Result<(Times, Cursor), Fault>
+    ensures { view_read number_of (λ x. x) result ≡ times_at s.now c.at }
 {
-    match c.read_int32(s) {
-        Int32Read::Got(delta, at_first) => match at_first.read_int64(s) {
-            Int64Read::Got(first, at_max) => match at_max.read_int64(s) {
-                Int64Read::Got(max, next) => {
-                    let last_offset_delta = delta.0;
-                    let first_timestamp = first.0;
-                    let max_timestamp = max.0;
-                    TimesRead::Got(
-                        Times {
-                            last_offset_delta,
-                            first_timestamp,
-                            max_timestamp,
-                        },
-                        next,
-                    )
-                }
-                Int64Read::Refused(f) => TimesRead::Refused(f),
-            },
-            Int64Read::Refused(f) => TimesRead::Refused(f),
-        },
-        Int32Read::Refused(f) => TimesRead::Refused(f),
-    }
+    let (last_offset_delta, at_first) = c.read_int32(s)?;
+    let (first_timestamp, at_max) = at_first.read_int64(s)?;
+    let (max_timestamp, next) = at_max.read_int64(s)?;
+    let times = Times {
+        last_offset_delta: last_offset_delta.0,
+        first_timestamp: first_timestamp.0,
+        max_timestamp: max_timestamp.0,
+    };
+    Ok((times, next))
 }
 
-fn read_producer(s: &[u8], c: Cursor) -> ProducerRead
-    ensures { view_producer result ≡ producer_at s.now c.at }
+#[tactic(auto, unfolding(crate::specs::Opening::producer_at))]
+fn read_producer(s: &[u8], c: Cursor) -> Result<(Producer, Cursor), Fault>
+    ensures { view_read number_of (λ x. x) result ≡ producer_at s.now c.at }
 {
-    match c.read_int64(s) {
-        Int64Read::Got(id, at_epoch) => match at_epoch.read_int16(s) {
-            Int16Read::Got(epoch, at_sequence) => match at_sequence.read_int32(s) {
-                Int32Read::Got(sequence, next) => {
-                    let id = id.0;
-                    let epoch = epoch.0;
-                    let base_sequence = sequence.0;
-                    ProducerRead::Got(
-                        Producer {
-                            id,
-                            epoch,
-                            base_sequence,
-                        },
-                        next,
-                    )
-                }
-                Int32Read::Refused(f) => ProducerRead::Refused(f),
-            },
-            Int16Read::Refused(f) => ProducerRead::Refused(f),
-        },
-        Int64Read::Refused(f) => ProducerRead::Refused(f),
-    }
+    let (id, at_epoch) = c.read_int64(s)?;
+    let (epoch, at_sequence) = at_epoch.read_int16(s)?;
+    let (base_sequence, next) = at_sequence.read_int32(s)?;
+    let producer = Producer {
+        id: id.0,
+        epoch: epoch.0,
+        base_sequence: base_sequence.0,
+    };
+    Ok((producer, next))
 }
 
 // The count is judged before the codec, and a control batch's after it. A count of -1 reads as 0.
-fn read_count(s: &[u8], c: Cursor, attributes: Attributes) -> CountRead
-    ensures { view_count_read result ≡ count_at (view_attributes attributes) s.now c.at }
+#[tactic(auto, unfolding(crate::specs::Opening::count_at))]
+fn read_count(s: &[u8], c: Cursor, attributes: Attributes) -> Result<(usize, Cursor), BatchFault>
+    ensures { view_read batch_number_of (λ n. n) result ≡ count_at (view_attributes attributes) s.now c.at }
 {
-    match c.read_int32(s) {
-        Int32Read::Got(count, next) => {
-            let count = count.0;
-            if count < -1 {
-                return CountRead::Refused(BatchFault::WrongCount);
-            }
-            if 0 < attributes.codec {
-                return CountRead::Refused(BatchFault::Compressed);
-            }
-            let records = at_least_0(count);
-            if attributes.is_control {
-                if records != 1 {
-                    return CountRead::Refused(BatchFault::WrongCount);
-                }
-            }
-            CountRead::Got(records, next)
-        }
-        Int32Read::Refused(f) => CountRead::Refused(BatchFault::Body(RecordFault::Field(f))),
+    let (count, next) = c.read_int32(s)?;
+    if count.0 < -1 {
+        return Err(BatchFault::WrongCount);
     }
-}
-
-fn at_least_0(count: i32) -> usize
-    ensures { result ≡ at_least0 count }
-{
-    if count < 0 { 0 } else { count as usize }
+    if attributes.compression != RecordBatchCompression::NoCompression {
+        return Err(BatchFault::Compressed);
+    }
+    let records = count.0.max(0) as usize;
+    if attributes.is_control && records != 1 {
+        return Err(BatchFault::WrongCount);
+    }
+    Ok((records, next))
 }
 
 // The batch's bytes end where `s` ends.
-fn open(s: &[u8], at: usize, base_offset: i64, partition_leader_epoch: i32) -> Opening
+#[tactic(auto, unfolding(crate::specs::Opening::opening_at))]
+fn open(s: &[u8], at: usize, frame: Frame) -> Result<Opened, BatchFault>
     requires { at + 21 ≤ length s.now }
-    ensures { view_opening result ≡ opening_at base_offset partition_leader_epoch s.now at }
+    ensures { view_open result ≡ known_at frame.total (opening_at frame.base_offset frame.partition_leader_epoch s.now at) }
 {
     if !checksum_holds(s, at) {
-        return Opening::Refused(BatchFault::ChecksumDiffers);
+        return Err(BatchFault::ChecksumDiffers);
     }
     let checked = at + BatchFields::UNCOUNTED + BatchFields::UNCHECKED;
-    open_checked(
-        s,
-        Cursor { at: checked },
-        base_offset,
-        partition_leader_epoch,
-    )
+    open_checked(s, Cursor { at: checked }, frame)
 }
 
 // The checksum is over all that follows it.
+#[tactic(auto, using(crate::proofs::Openings::sums))]
 fn checksum_holds(s: &[u8], at: usize) -> bool
     requires { at + 21 ≤ length s.now }
     ensures { result ≡ eqb (unsigned_in table.crc s.now at) (sum_of (drop (at + 21) s.now)) }
@@ -420,59 +334,32 @@ fn checksum_holds(s: &[u8], at: usize) -> bool
     };
     let from = at + BatchFields::UNCOUNTED + BatchFields::UNCHECKED;
     match c.read_uint32(s) {
-        Uint32Read::Got(crc, _) => crc.0 == crc32c(&s[from..]),
-        Uint32Read::Refused(_) => false,
+        Ok((crc, _)) => crc.0 == crc32c(&s[from..]),
+        Err(_) => false,
     }
 }
 
-fn open_checked(s: &[u8], c: Cursor, base_offset: i64, partition_leader_epoch: i32) -> Opening
-    ensures { view_opening result ≡ checked_at base_offset partition_leader_epoch s.now c.at }
+#[tactic(auto, unfolding(crate::specs::Opening::checked_at))]
+fn open_checked(s: &[u8], c: Cursor, frame: Frame) -> Result<Opened, BatchFault>
+    ensures { view_open result ≡ known_at frame.total (checked_at frame.base_offset frame.partition_leader_epoch s.now c.at) }
 {
-    match read_attributes(s, c) {
-        AttributesRead::Got(attributes, at_times) => match read_times(s, at_times) {
-            TimesRead::Got(times, at_producer) => match read_producer(s, at_producer) {
-                ProducerRead::Got(producer, at_count) => match read_count(s, at_count, attributes) {
-                    CountRead::Got(count, next) => Opening::Got {
-                        fields: fields_of(
-                            base_offset,
-                            partition_leader_epoch,
-                            attributes,
-                            times,
-                            producer,
-                        ),
-                        is_control: attributes.is_control,
-                        count,
-                        next,
-                    },
-                    CountRead::Refused(f) => Opening::Refused(f),
-                },
-                ProducerRead::Refused(f) => Opening::Refused(BatchFault::Body(RecordFault::Field(
-                    f,
-                ))),
-            },
-            TimesRead::Refused(f) => Opening::Refused(BatchFault::Body(RecordFault::Field(f))),
-        },
-        AttributesRead::Refused(f) => Opening::Refused(f),
-    }
-}
-
-fn fields_of(
-    base_offset: i64,
-    partition_leader_epoch: i32,
-    attributes: Attributes,
-    times: Times,
-    producer: Producer,
-) -> BatchFields
-    ensures { view_batch_fields result ≡ fields_from base_offset partition_leader_epoch (view_attributes attributes) times producer }
-{
-    let is_transactional = attributes.is_transactional;
-    let timestamp_type = attributes.timestamp_type;
-    BatchFields {
-        base_offset,
-        partition_leader_epoch,
-        timestamp_type,
-        is_transactional,
+    let (attributes, at_times) = read_attributes(s, c)?;
+    let (times, at_producer) = read_times(s, at_times)?;
+    let (producer, at_count) = read_producer(s, at_producer)?;
+    let (count, next) = read_count(s, at_count, attributes)?;
+    let fields = BatchFields {
+        base_offset: frame.base_offset,
+        partition_leader_epoch: frame.partition_leader_epoch,
+        timestamp_type: attributes.timestamp_type,
+        is_transactional: attributes.is_transactional,
         times,
         producer,
-    }
+    };
+    Ok(Opened {
+        fields,
+        is_control: attributes.is_control,
+        count,
+        next,
+        total: frame.total,
+    })
 }

@@ -2,13 +2,10 @@
 // the server that the cookie is pinned to; a null value withdraws the pinning.
 #![tactic(auto)]
 
-ghost use Rattle.std.specs.Prelude.{◌≤◌, ◌<◌, ◌≡◌, length};
-
 use batches::{ControlBatchOrRecords, RecordBatch};
 use layout::{ControlMode, RecordBatchTimestampType};
 use markers::ControlBatchRecord;
 use std::io;
-use writing::Written;
 
 // What keys and values are taken from: ten cookies, six servers, and the words of the headers.
 const SOURCE: [u8; 344] = *b"session-0000000000000017\
@@ -54,10 +51,8 @@ const NORTH: i64 = EXPIRED + 7;
 
 const SOUTH: i64 = NORTH + 5;
 
-// The numbers of a record row, and of the rows of all batches.
+// The numbers of a record row.
 const ROW: usize = 8;
-
-const TABLE: usize = 24 * ROW;
 
 // How many bytes a batch may have.
 const ROOM: usize = 4096;
@@ -153,109 +148,49 @@ const CREATED: RecordBatchTimestampType = RecordBatchTimestampType::CreateTime;
 
 const APPENDED: RecordBatchTimestampType = RecordBatchTimestampType::LogAppendTime;
 
-const ABORT: ControlBatchOrRecords = ControlBatchOrRecords::ControlBatch(ControlBatchRecord::Abort);
-
-const COMMIT: ControlBatchOrRecords = ControlBatchOrRecords::ControlBatch(
-    ControlBatchRecord::Commit,
-);
-
 fn main(rt: HostRuntime) -> io::Result<()> {
-    let records = rows();
-    pin(&rt, &records)?;
-    move_together(&rt, &records)?;
-    go_on(&rt, &records)
+    pin(&rt)?;
+    move_together(&rt)?;
+    go_on(&rt)
 }
 
-fn rows() -> [i64; TABLE]
-    ensures { 192 ≡ length result }
-{
-    let mut table = [0i64; TABLE];
-    let mut i = 0;
-    while i < TABLE {
-        let row = RECORDS[i / ROW];
-        let n = row[i % ROW];
-        table[i] = n;
-        i += 1;
-    }
-    table
-}
-
-fn pin(rt: &impl Print, records: &[i64; TABLE]) -> io::Result<()> {
-    let b = batch(0, NOBODY, CREATED);
-    print(rt, b, ControlBatchOrRecords::Records(4), records, 0, &NONE)?;
-    let b = batch(1, NOBODY, CREATED);
-    print(rt, b, ControlBatchOrRecords::Records(3), records, 4, &ZONES)?;
-    let b = batch(2, NOBODY, CREATED);
-    print(
-        rt,
-        b,
-        ControlBatchOrRecords::Records(2),
-        records,
-        7,
-        &TO_NORTH,
-    )?;
-    let b = batch(3, NOBODY, CREATED);
-    print(
-        rt,
-        b,
-        ControlBatchOrRecords::Records(2),
-        records,
-        9,
-        &EXPIRY,
-    )
+fn pin(rt: &impl Print) -> io::Result<()> {
+    let b = batch(EXTENTS[0], NOBODY, CREATED);
+    print_records(rt, b, &RECORDS[..4], &NONE)?;
+    let b = batch(EXTENTS[1], NOBODY, CREATED);
+    print_records(rt, b, &RECORDS[4..7], &ZONES)?;
+    let b = batch(EXTENTS[2], NOBODY, CREATED);
+    print_records(rt, b, &RECORDS[7..9], &TO_NORTH)?;
+    let b = batch(EXTENTS[3], NOBODY, CREATED);
+    print_records(rt, b, &RECORDS[9..11], &EXPIRY)
 }
 
 // Two transactions, each with the marker that ends it.
-fn move_together(rt: &impl Print, records: &[i64; TABLE]) -> io::Result<()> {
-    let b = batch(4, MOVING, CREATED);
-    print(
-        rt,
-        b,
-        ControlBatchOrRecords::Records(3),
-        records,
-        11,
-        &MOVES,
-    )?;
-    let b = batch(5, MARKING, CREATED);
-    print(rt, b, COMMIT, records, 0, &NONE)?;
-    let b = batch(6, MOVING_ON, CREATED);
-    print(
-        rt,
-        b,
-        ControlBatchOrRecords::Records(2),
-        records,
-        14,
-        &MOVES,
-    )?;
-    let b = batch(7, MARKING, CREATED);
-    print(rt, b, ABORT, records, 0, &NONE)
+fn move_together(rt: &impl Print) -> io::Result<()> {
+    let b = batch(EXTENTS[4], MOVING, CREATED);
+    print_records(rt, b, &RECORDS[11..14], &MOVES)?;
+    let b = batch(EXTENTS[5], MARKING, CREATED);
+    print_marker(rt, b, ControlBatchRecord::Commit)?;
+    let b = batch(EXTENTS[6], MOVING_ON, CREATED);
+    print_records(rt, b, &RECORDS[14..16], &MOVES)?;
+    let b = batch(EXTENTS[7], MARKING, CREATED);
+    print_marker(rt, b, ControlBatchRecord::Abort)
 }
 
 // The first batch has lost all its three records to compaction and the third has lost three of six: both keep the
 // offsets that they had.
-fn go_on(rt: &impl Print, records: &[i64; TABLE]) -> io::Result<()> {
-    let b = batch(8, REMEMBERED, CREATED);
-    print(rt, b, ControlBatchOrRecords::Records(0), records, 0, &NONE)?;
-    let b = batch(9, NOBODY, APPENDED);
-    print(rt, b, ControlBatchOrRecords::Records(3), records, 16, &NONE)?;
-    let b = batch(10, NOBODY, CREATED);
-    print(rt, b, ControlBatchOrRecords::Records(3), records, 19, &NONE)?;
-    let b = batch(11, NOBODY, CREATED);
-    print(
-        rt,
-        b,
-        ControlBatchOrRecords::Records(2),
-        records,
-        22,
-        &TO_SOUTH,
-    )
+fn go_on(rt: &impl Print) -> io::Result<()> {
+    let b = batch(EXTENTS[8], REMEMBERED, CREATED);
+    print_records(rt, b, &[], &NONE)?;
+    let b = batch(EXTENTS[9], NOBODY, APPENDED);
+    print_records(rt, b, &RECORDS[16..19], &NONE)?;
+    let b = batch(EXTENTS[10], NOBODY, CREATED);
+    print_records(rt, b, &RECORDS[19..22], &NONE)?;
+    let b = batch(EXTENTS[11], NOBODY, CREATED);
+    print_records(rt, b, &RECORDS[22..], &TO_SOUTH)
 }
 
-// The batch with the extent of this number.
-fn batch(n: usize, p: Producer, timestamp_type: RecordBatchTimestampType) -> RecordBatch
-    requires { n < 12 }
-{
-    let e = EXTENTS[n];
+fn batch(e: Extent, p: Producer, timestamp_type: RecordBatchTimestampType) -> RecordBatch {
     RecordBatch {
         base_offset: e.0,
         partition_leader_epoch: 6,
@@ -270,25 +205,46 @@ fn batch(n: usize, p: Producer, timestamp_type: RecordBatchTimestampType) -> Rec
     }
 }
 
-// Writes a batch whose records have their rows from `first` on. One that is refused is left out, and the log is then
-// not the one that is expected.
+fn print_records(
+    rt: &impl Print,
+    batch: RecordBatch,
+    records: &[[i64; ROW]],
+    headers: &[i64],
+) -> io::Result<()> {
+    let kind = ControlBatchOrRecords::Records(records.len());
+    print(rt, batch, kind, records.as_flattened(), headers)
+}
+
+fn print_marker(rt: &impl Print, batch: RecordBatch, marker: ControlBatchRecord) -> io::Result<()> {
+    print(
+        rt,
+        batch,
+        ControlBatchOrRecords::ControlBatch(marker),
+        &[],
+        &[],
+    )
+}
+
+// Writes a batch. One that is refused is left out, and the log is then not the one that is expected.
 fn print(
     rt: &impl Print,
     batch: RecordBatch,
     kind: ControlBatchOrRecords,
-    records: &[i64; TABLE],
-    first: usize,
+    records: &[i64],
     headers: &[i64],
-) -> io::Result<()>
-    requires { first ≤ 24 }
-{
+) -> io::Result<()> {
     let mut output = [0u8; ROOM];
-    let all = &records[..];
-    let from = ROW * first;
-    let keyed = ControlMode::Keyed;
-    let written = batch.write(keyed, 0, kind, &all[from..], headers, &SOURCE, &mut output);
+    let written = batch.write(
+        ControlMode::Keyed,
+        0,
+        kind,
+        records,
+        headers,
+        &SOURCE,
+        &mut output,
+    );
     match written {
-        Written::Bytes(n) => rt.write_all(&output[..n]),
-        Written::Refused(_) => Ok(()),
+        Ok(n) => rt.write_all(&output[..n]),
+        Err(_) => Ok(()),
     }
 }

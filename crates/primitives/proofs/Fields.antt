@@ -1,79 +1,86 @@
--- What the methods that read an integer return, over the width: the bytes' number, turned to its sign and narrowed to
--- its type, which holds it since the bytes are as many as the type has. The premises have the form in which a proof
--- finds them. Assumes nothing.
-use Rattle.std.proofs.Common.{◌≡◌, ℕ, ◌-◌, ◌*◌, ◌^◌, ◌<◌, ◌≤◌, List, get_or, ℤ, sym, refl, ap, ◌∙◌, arith, pow_pos, w8, w16, w32, w64, Fits, SFits, to_z, of_z}
+-- What the methods that read an integer return, over the width: the number of the bytes there, by their sign. The
+-- premises have the form in which a proof finds them. Assumes nothing.
+use Rattle.std.proofs.Common.{◌≡◌, ℕ, zero, suc, ◌+◌, ◌-◌, ◌*◌, ◌^◌, ◌<◌, ◌≤◌, Bool, true, false, nat_le, List, length, take, drop, get_or, get_or-take, get_or-drop, take_all, length-drop, zero-add, ℤ, sym, refl, ap, ◌∙◌, arith, w8, w16, w32, w64, to_z, of_z, lt-ltb, le-ltb, le-leb}
 use native.Mathlib.Decide.{dec_lt}
+use borrow.Author.Tests.{lt-leb}
 use lib.Signed.{mag}
 use mir.Syntax.{Width, w128}
-use mir.Val.{bytes, hbits}
+use mir.Val.{bytes, bits, hbits}
 use mir.ValLaws.{to_z-of_z}
-use Rattle.numbers.proofs.Signs.{cast_fits, cast_back}
+use Rattle.numbers.specs.Pick.{pick}
 use Rattle.numbers.proofs.Widths.{sign_bit}
-use Rattle.primitives.specs.declared.Cursor.{Cursor}
-use Rattle.primitives.specs.declared.Fault.{Fault}
-use Rattle.primitives.specs.declared.RawRead.{RawRead}
 use Rattle.primitives.specs.Step.{ok, no, map_step}
-use Rattle.primitives.specs.Reading.{unsigned_at, signed_by, integer_at}
-use Rattle.primitives.specs.Answers.{number_of}
-use Rattle.primitives.specs.Words.{view_raw, Halved}
-use Rattle.primitives.proofs.Integers.{unsigned_sound, signed_low, signed_high}
+use Rattle.primitives.specs.Reading.{big, unsigned_at, signed_by, integer_at}
+use Rattle.primitives.specs.Words.{window_at}
+use Rattle.primitives.proofs.Integers.{signed_low, signed_high}
+use Rattle.primitives.proofs.Steps.{map_map}
 
--- ---- the width of a type: as many bytes, whose numbers its half splits in two
-halves : (w : Width) → 256 ^ bytes w ≡ 2 * 2 ^ hbits w
-halves w8 = refl
-halves w16 = refl
-halves w32 = refl
-halves w64 = refl
-halves w128 = refl
+-- ---- bytes that are there, or not
 
--- ---- unsigned
-module _ (n : ℕ) (s : List ℕ) (at : ℕ) (r : RawRead) (e : view_raw r ≡ unsigned_at n s at) where
-  pub unsigned_got : (v : ℕ) (next : Cursor) → r ≡ RawRead.Got v next → ok v next.at ≡ unsigned_at n s at
-  unsigned_got v next f = sym (ap view_raw f) ∙ e
+module _ (n : ℕ) (s : List ℕ) (at : ℕ) where
+  pub window_there : (bs rest : List ℕ) → bs ≡ take n rest → rest ≡ take (length s - at) (drop at s) → at ≤ length s → n ≤ length rest
+      → ok bs (at + n) ≡ window_at n s at
+  unfolding window_at
+  window_there bs rest e f h k =
+      let all : rest ≡ drop at s = f ∙ take_all (length s - at) (drop at s) (omega (arith, length-drop at s)) in
+      let l : at + n ≤ length s = omega (arith, k, ap (λ (xs : List ℕ). length xs) all, length-drop at s) in
+      rw (le-leb (at + n) (length s) l, e, all)
 
-  pub unsigned_refused : (f : Fault) → r ≡ RawRead.Refused f → no (number_of f) ≡ unsigned_at n s at
-  unsigned_refused f g = sym (ap view_raw g) ∙ e
+  pub window_gone : length s < at + n → no 8 ≡ window_at n s at
+  unfolding window_at
+  window_gone h = rw (lt-leb (at + n) (length s) h)
 
-  pub unsigned_below : (v : ℕ) (next : Cursor) → ((i : ℕ) → Fits w8 (get_or s i 0)) → r ≡ RawRead.Got v next → v < 256 ^ n
-  unsigned_below v next bytes f =
-      (unsigned_sound n s at v next.at (λ i. (bytes i).fits) (sym (unsigned_got v next f))).encodes.fits
+-- ---- bytes and their number
 
-  pub integer_refused : (f : Fault) → r ≡ RawRead.Refused f → no (number_of f) ≡ integer_at n s at
-  unfolding integer_at
-  integer_refused f g = rw (sym (unsigned_refused f g))
+-- a byte of the window is the list's
+big_window : (k n : ℕ) (s : List ℕ) (at : ℕ) → k ≤ n → big k (take n (drop at s)) 0 ≡ big k s at
+unfolding big
+big_window zero n s at h = refl
+big_window (suc k) n s at h =
+    let e : get_or (take n (drop at s)) k 0 ≡ get_or s (at + k) 0 = get_or-take n (drop at s) k 0 (omega arith) ∙ get_or-drop at s k 0 in
+    let z : get_or (take n (drop at s)) (0 + k) 0 ≡ get_or (take n (drop at s)) k 0 = ap (λ (i : ℕ). get_or (take n (drop at s)) i 0) (zero-add k) in
+    omega (arith, z, e, big_window k n s at (omega arith))
 
--- ---- signed
--- the type whose half splits the numbers holds what they stand for
-pub signed_fits : (w : Width) (v : ℕ) → v < 2 * 2 ^ hbits w → SFits w (signed_by (2 ^ hbits w) v)
-signed_fits w v h =
-    elim (dec_lt v (2 ^ hbits w)) [
-      | yes l ↦ rw (signed_low (2 ^ hbits w) v l) (record { sfits = l })
-      | Dec.no g ↦ rw (signed_high (2 ^ hbits w) v (omega arith)) (record { sfits = omega arith })
-    ]
+map_pick : {P A B : Type 0} (t : Bool) (f : A → B) (a : A) (b : B) (p : P) (n : ℕ) → f a ≡ b
+    → pick t (ok b p) (no n) ≡ map_step f (pick t (ok a p) (no n))
+map_pick true f a b p n e = ap (λ x. ok x p) (sym e)
+map_pick false f a b p n e = refl
 
-module _ (w : Width) (s : List ℕ) (at : ℕ) (r : RawRead) (v : ℕ) (next : Cursor) (bounds : (i : ℕ) → Fits w8 (get_or s i 0))
-    (e : view_raw r ≡ unsigned_at (bytes w) s at) (f : r ≡ RawRead.Got v next) where
-  below : v < 2 * 2 ^ hbits w
-  below = rw (halves w) at (unsigned_below (bytes w) s at r e v next bounds f)
+pub unsigned_window : (n : ℕ) (s : List ℕ) (at : ℕ) → unsigned_at n s at ≡ map_step (λ bs. big n bs 0) (window_at n s at)
+unfolding unsigned_at window_at
+unsigned_window n s at =
+    map_pick (nat_le (at + n) (length s)) (λ bs. big n bs 0) (take n (drop at s)) (big n s at) (at + n) 8 (big_window n n s at (omega arith))
 
-  pub halved : 2 ^ hbits w ≤ 2 ^ 63 → Halved (2 ^ hbits w) v
-  halved h = record { some = pow_pos (hbits w); half_fits = h; below = below }
+pub integer_window : (n : ℕ) (s : List ℕ) (at : ℕ)
+    → integer_at n s at ≡ map_step (λ bs. signed_by (2 ^ (8 * n - 1)) (big n bs 0)) (window_at n s at)
+unfolding integer_at
+integer_window n s at =
+    ap (map_step (signed_by (2 ^ (8 * n - 1)))) (unsigned_window n s at)
+    ∙ map_map (signed_by (2 ^ (8 * n - 1))) (λ bs. big n bs 0) (window_at n s at)
 
-  module _ (z : ℤ) (fits : mag z < 2 ^ 63) (g : z ≡ signed_by (2 ^ hbits w) v) where
-    narrow : SFits w z
-    narrow = rw g (signed_fits w v below)
+-- ---- the sign of a type is that of its width
 
-    pub narrowed : SFits w (to_z w64 (of_z w64 z))
-    narrowed = cast_fits w64 w z (record { sfits = fits }) narrow
+pub twice_half : (w : Width) → 2 ^ bits w ≡ 2 * 2 ^ hbits w
+twice_half w8 = refl
+twice_half w16 = refl
+twice_half w32 = refl
+twice_half w64 = refl
+twice_half w128 = refl
 
-    integer_is : ok z next.at ≡ integer_at (bytes w) s at
-    unfolding integer_at
-    integer_is =
-        ap (λ (x : ℤ). ok x next.at) (g ∙ ap (λ (k : ℕ). signed_by (2 ^ k) v) (sym (sign_bit w)))
-        ∙ ap (map_step (signed_by (2 ^ (8 * bytes w - 1)))) (unsigned_got (bytes w) s at r e v next f)
+pub signed_is : (w : Width) (v : ℕ) → to_z w v ≡ signed_by (2 ^ (8 * bytes w - 1)) v
+signed_is w v =
+    rw sign_bit
+    (elim (dec_lt v (2 ^ hbits w)) [
+      | yes l ↦ rw (lt-ltb v (2 ^ hbits w) l, signed_low (2 ^ hbits w) v l)
+      | Dec.no g ↦ rw (le-ltb v (2 ^ hbits w) (omega arith), signed_high (2 ^ hbits w) v (omega arith), twice_half w)
+    ])
 
-    pub integer_got : ok (to_z w (of_z w (to_z w64 (of_z w64 z)))) next.at ≡ integer_at (bytes w) s at
-    integer_got = ap (λ (x : ℤ). ok x next.at) (cast_back w64 w z (record { sfits = fits }) narrow) ∙ integer_is
+module _ (w : Width) (s : List ℕ) (at : ℕ) (bs : List ℕ) (q : ℕ) (e : ok bs q ≡ window_at (bytes w) s at) where
+  pub unsigned_got : (v : ℕ) → v ≡ big (bytes w) bs 0 → ok v q ≡ unsigned_at (bytes w) s at
+  unsigned_got v f = rw (unsigned_window, ← e, f)
 
-    pub widest_got : ok (to_z w64 (of_z w64 z)) next.at ≡ integer_at (bytes w) s at
-    widest_got = ap (λ (x : ℤ). ok x next.at) (to_z-of_z w64 z (record { sfits = fits })) ∙ integer_is
+  pub integer_got : (z : ℤ) → mag z < 2 ^ hbits w → (v : ℕ) → z ≡ to_z w v → v ≡ big (bytes w) bs 0
+      → ok (to_z w (of_z w z)) q ≡ integer_at (bytes w) s at
+  integer_got z fits v f g =
+      rw (integer_window, ← e)
+      (ap (λ (x : ℤ). ok x q) (to_z-of_z w z (record { sfits = fits }) ∙ f ∙ signed_is w v ∙ ap (signed_by (2 ^ (8 * bytes w - 1))) g))

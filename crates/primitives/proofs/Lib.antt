@@ -1,4 +1,5 @@
 pub mod Codes
+pub mod Exits
 pub mod FieldFaults
 pub mod Fields
 pub mod Integers

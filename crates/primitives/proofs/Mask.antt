@@ -1,7 +1,13 @@
 -- The zigzag undone by a sign mask, over the width: the mask is 0 minus the lowest bit, wrapping, so it is 0 where the
 -- code is even and all ones where it is odd, and xor with all ones is the complement. Assumes nothing.
-use Rattle.std.proofs.Common.{◌≡◌, ℕ, suc, ◌+◌, ◌-◌, ◌*◌, ◌/◌, ◌%◌, ◌^◌, ◌<◌, negsuc, sym, ap, ◌∙◌, add-zero, mod-eq_of_lt, arith, eq-eqb, ne_eqb}
+use Rattle.std.proofs.Common.{◌≡◌, ℕ, suc, ◌+◌, ◌-◌, ◌*◌, ◌/◌, ◌%◌, ◌^◌, ◌<◌, negsuc, sym, ap, ◌∙◌, add-zero, mod-eq_of_lt, arith, eq-eqb, ne_eqb, ℤ, to_z, of_z}
 use native.Mathlib.Decide.{dec_lt}
+use lib.Signed.{mag}
+use mir.Syntax.{Width}
+use mir.Val.{hbits}
+use mir.ValLaws.{to_z-of_z}
+use Rattle.numbers.proofs.Widths.{sign_bit}
+use Rattle.primitives.proofs.Fields.{signed_is}
 use lib.Bits.{bit_xor, bit_and, xor_zero_r, xor_add_and, and_mask, xor_lt}
 use Rattle.primitives.specs.Reading.{signed_by, unzigzag}
 use Rattle.primitives.proofs.Integers.{signed_low, signed_high}
@@ -46,3 +52,13 @@ module _ (k c m : ℕ) (hc : c < 2 ^ suc k) (hm : m < 2 ^ suc k) (e : (m + c % 2
 
   pub masked_below : bit_xor (c / 2) m < 2 ^ suc k
   masked_below = xor_lt (suc k) (c / 2) m (omega arith) hm
+
+-- the same in a type, whose numbers have so many bits
+pub unmasked_as : (w : Width) (k c m : ℕ) (z : ℤ) → hbits w ≡ k → c < 2 ^ suc k → m < 2 ^ suc k → (m + c % 2) % 2 ^ suc k ≡ 0
+    → 2 ^ suc k ≡ 2 * 2 ^ k → mag z < 2 ^ hbits w → z ≡ to_z w (bit_xor (c / 2) m) → to_z w (of_z w z) ≡ unzigzag c
+unmasked_as w k c m z half hc hm e double fits f =
+    to_z-of_z w z (record { sfits = fits })
+    ∙ f
+    ∙ signed_is w _
+    ∙ ap (λ (n : ℕ). signed_by (2 ^ n) (bit_xor (c / 2) m)) (sign_bit w ∙ half)
+    ∙ unmasked k c m hc hm e double

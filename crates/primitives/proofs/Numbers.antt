@@ -5,30 +5,17 @@ use lib.Signed.{mag}
 use mir.Syntax.{Width}
 use mir.Val.{hbits}
 use mir.ValLaws.{to_z-of_z}
-use Rattle.primitives.specs.declared.Cursor.{Cursor}
-use Rattle.primitives.specs.declared.Fault.{Fault}
-use Rattle.primitives.specs.declared.RawRead.{RawRead}
-use Rattle.primitives.specs.Step.{ok, no, map_step}
+use Rattle.primitives.specs.Step.{ok, map_step}
 use Rattle.primitives.specs.Reading.{code_at, full, limit, unzigzag, varint_at}
-use Rattle.primitives.specs.Answers.{number_of}
-use Rattle.primitives.specs.Words.{view_raw}
 use Rattle.primitives.proofs.Codes.{code_below}
 use Rattle.primitives.proofs.Varints.{width_holds, limit_some}
 
-module _ (w : ℕ) (s : List ℕ) (at : ℕ) (r : RawRead) (e : view_raw r ≡ code_at (full w) (limit w) s at) where
-  pub number_refused : (f : Fault) → r ≡ RawRead.Refused f → no (number_of f) ≡ varint_at w s at
+module _ (w : ℕ) (s : List ℕ) (at c q : ℕ) (e : ok c q ≡ code_at (full w) (limit w) s at) where
+  pub code_fits : ((i : ℕ) → Fits w8 (get_or s i 0)) → c < 2 ^ w
+  code_fits bytes = rw (← width_holds w) (code_below (limit w) s (λ i. (bytes i).fits) (limit_some w) (full w) at (sym e))
+
+  -- the number lies in a type of v bits
+  pub number_got : (v : Width) (n : ℤ) → mag n < 2 ^ hbits v → n ≡ unzigzag c → ok (to_z v (of_z v n)) q ≡ varint_at w s at
   unfolding varint_at
-  number_refused f g = rw (sym e ∙ ap view_raw g)
-
-  module _ (c : ℕ) (next : Cursor) (f : r ≡ RawRead.Got c next) where
-    pub code_fits : ((i : ℕ) → Fits w8 (get_or s i 0)) → c < 2 ^ w
-    code_fits bytes =
-        rw (← width_holds w)
-        (code_below (limit w) s (λ i. (bytes i).fits) (limit_some w) (full w) at (sym e ∙ ap view_raw f))
-
-    -- the number lies in a type of v bits
-    pub number_got : (v : Width) (n : ℤ) → mag n < 2 ^ hbits v → n ≡ unzigzag c → ok (to_z v (of_z v n)) next.at ≡ varint_at w s at
-    unfolding varint_at
-    number_got v n fits g =
-        ap (λ (z : ℤ). ok z next.at) (to_z-of_z v n (record { sfits = fits }) ∙ g)
-        ∙ ap (map_step unzigzag) (sym (ap view_raw f) ∙ e)
+  number_got v n fits g =
+      ap (λ (z : ℤ). ok z q) (to_z-of_z v n (record { sfits = fits }) ∙ g) ∙ ap (map_step unzigzag) e

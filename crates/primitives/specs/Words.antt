@@ -1,20 +1,13 @@
 -- Words of private contracts: none of them stands in a promise.
-use Rattle.std.specs.Prelude.{ℕ, ◌*◌, ◌^◌, ◌<◌, ◌≤◌}
-use Rattle.primitives.specs.declared.RawRead.{RawRead}
+use Rattle.std.specs.Prelude.{ℕ, ◌+◌, ◌*◌, ◌^◌, ◌<◌, ◌≤◌, List, length, take, drop, nat_le}
+use Rattle.numbers.specs.Pick.{pick}
 use Rattle.primitives.specs.Step.{Step, ok, no}
-use Rattle.primitives.specs.Answers.{number_of}
 
--- what the answer says of the private functions that read a number of any width
-abbrev pub view_raw : RawRead → Step ℕ ℕ
-view_raw (RawRead.Got v c) = ok v c.at
-view_raw (RawRead.Refused f) = no (number_of f)
+-- n bytes from a place on
+unfoldable pub window_at : ℕ → List ℕ → ℕ → Step ℕ (List ℕ)
+window_at n s at = pick (nat_le (at + n) (length s)) (ok (take n (drop at s)) (at + n)) (no 8)
 
--- what the private functions may count on: a number of a width whose half is given, and a code that fits 64 bits
-pub record Halved (half v : ℕ) : Type 0 where
-  pub some : 0 < half
-  pub half_fits : half ≤ 2 ^ 63
-  pub below : v < 2 * half
-
+-- what the private functions may count on: a code that fits 64 bits
 pub record Holds (full limit : ℕ) : Type 0 where
   pub some : 1 < limit
   pub fits : 128 ^ full * limit ≤ 2 ^ 64

@@ -2,57 +2,41 @@
 -- all else stays. Assumes nothing.
 use Prim.Native.Nat.{ℕ, suc, ◌+◌, ◌-◌, ◌*◌, ◌/◌, ◌≤◌, ◌<◌}
 use mathlib.Core.Path.{◌≡◌, refl, sym, ap, ◌∙◌}
-use mathlib.Core.Bool.{true, false}
+use mathlib.Core.Bool.{true}
 use mathlib.Core.List.{List, [], ◌∷◌, ◌++◌, map, append_assoc}
 use native.Mathlib.Omega.{arith}
 use native.Mathlib.Decide.{dec_le}
 use native.Mathlib.Nat.{add-mul, one-mul, add-zero}
 use borrow.Author.Tests.{le-leb, lt-leb}
-use lib.Dec.{leb}
+use Rattle.std.proofs.Math.Nat.{le-div_iff_mul-le, div-lt_iff_lt-mul}
+use borrow.Rule.Slice.PartMut.{put_mid}
 use lib.IntN.{ℤ}
-use lib.ListN.{length, take, drop, length-append, length-map, take-append-drop}
-use lib.Seq.{sets, sets-eq, length-sets, length-take-le, take_at, drop-append-add, drop-drop}
-use Rattle.numbers.specs.Pick.{pick}
+use lib.ListN.{length, take, drop, length-append, length-drop, length-map, take-append-drop}
+use lib.Seq.{length-take-le, take_at, drop-append-add, drop-drop}
 use Rattle.numbers.specs.Concat.{concat}
 use Rattle.records.specs.Judgement.{HeaderSpans, RecordSpans}
 use Rattle.records.specs.Rows.{header_row, record_rows, header_rows, filled, Tables, roomy, with_rows}
 use Rattle.records.proofs.Wide.{Wide, records_wide, headers_wide, records_end, headers_end}
 use Rattle.reading.specs.Walk.{put, put_headers, put_record, put_records}
 
--- ---- lists of numbers, one by one
-
-infixr 5 ◌then◌
-pub ◌then◌ : {x y : ℤ} {xs ys : List ℤ} → x ≡ y → xs ≡ ys → ◌≡◌ {A = List ℤ} (x ∷ xs) (y ∷ ys)
-◌then◌ e f = λ i. e i ∷ f i
-
--- ---- whether there are rows enough
-
-module _ (records headers first n m : ℕ) where
-  pub no_record_rows : records / 8 < n → false ≡ pick (leb n (records / 8)) (leb (first + m) (headers / 4)) false
-  no_record_rows h = rw (lt-leb n (records / 8) h)
-
-  module _ (h : n ≤ records / 8) where
-    pub no_header_rows : headers / 4 < m → false ≡ pick (leb n (records / 8)) (leb (first + m) (headers / 4)) false
-    no_header_rows g = rw (le-leb n (records / 8) h, lt-leb (first + m) (headers / 4) (omega arith))
-
-    pub rows_from : m ≤ headers / 4 → leb first (headers / 4 - m) ≡ pick (leb n (records / 8)) (leb (first + m) (headers / 4)) false
-    rows_from g =
-        rw (le-leb n (records / 8) h)
-        (elim (dec_le (first + m) (headers / 4)) [
-          | yes l ↦ le-leb first (headers / 4 - m) (omega arith) ∙ sym (le-leb (first + m) (headers / 4) l)
-          | no l ↦ lt-leb first (headers / 4 - m) (omega arith) ∙ sym (lt-leb (first + m) (headers / 4) (omega arith))
-        ])
-
 -- ---- a row
+
+module _ (row w n : ℕ) (wide : 0 < w) where
+  pub row_ends : row < n / w → row * w + w ≤ n
+  row_ends h = let next : (row + 1) * w ≤ n = (le-div_iff_mul-le wide).0 (omega arith) in rw (add-mul, one-mul) at next
+
+  pub row_past : n / w ≤ row → n < row * w + w
+  row_past h = let next : n < (row + 1) * w = (div-lt_iff_lt-mul wide).0 (omega arith) in rw (add-mul, one-mul) at next
 
 module _ (w : ℕ) (t : List ℤ) (row : ℕ) (numbers : List ℤ) where
   put_is : row * w + w ≤ length t → put w t row numbers ≡ take (row * w) t ++ numbers ++ drop (row * w + w) t
   unfolding put
   put_is h = rw (le-leb (row * w + w) (length t) h) (sym (append_assoc (take (row * w) t) numbers (drop (row * w + w) t)))
 
-  -- a run of stores puts it in
-  pub put_in : length numbers ≡ w → row * w + w ≤ length t → sets t (row * w) numbers ≡ put w t row numbers
-  put_in e h = rw (put_is h, ← e) (sets-eq numbers t (row * length numbers) (rw e h))
+  -- a part that is written over puts it in
+  pub put_in : row * w + w ≤ length t → put_mid (row * w) (row * w + w - row * w) t numbers ≡ put w t row numbers
+  unfolding put
+  put_in h = let k : row * w + w - row * w ≡ w = omega arith in rw (k, le-leb (row * w + w) (length t) h, drop-drop)
 
   pub put_out : length t < row * w + w → t ≡ put w t row numbers
   unfolding put
@@ -61,7 +45,8 @@ module _ (w : ℕ) (t : List ℤ) (row : ℕ) (numbers : List ℤ) where
   length_put_lem : length numbers ≡ w → length (put w t row numbers) ≡ length t
   length_put_lem e =
       elim (dec_le (row * w + w) (length t)) [
-        | yes h ↦ rw (← put_in e h) (length-sets t (row * w) numbers)
+        | yes h ↦
+            rw (put_is h, length-append, length-append, length-take-le (row * w) t (omega arith), e, length-drop) (omega arith)
         | no g ↦ sym (ap length (put_out (omega arith)))
       ]
 
@@ -75,10 +60,6 @@ module _ (w : ℕ) (t : List ℤ) (row : ℕ) (numbers : List ℤ) where
 
     drop_put : (n : ℕ) → drop (row * w + w + n) (put w t row numbers) ≡ drop (row * w + w + n) t
     drop_put n = rw (put_is h, ← front, drop-append-add, drop-drop)
-
--- a row whose numbers are known to be others
-pub same_row : (w : ℕ) (t : List ℤ) (row : ℕ) {t' xs ys : List ℤ} → t' ≡ put w t row xs → xs ≡ ys → t' ≡ put w t row ys
-same_row w t row e f = e ∙ ap (put w t row) f
 
 -- ---- rows of any width
 

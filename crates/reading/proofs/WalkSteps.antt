@@ -1,53 +1,35 @@
 -- What the functions of the walk return: by the answer of each step before, whose tables the next one is lent. The
 -- premises have the form in which a proof finds them. Assumes nothing.
-use Prim.Native.Nat.{ℕ, ◌+◌, ◌-◌, ◌*◌, ◌≤◌, ◌<◌, min}
-use mathlib.Core.Path.{◌≡◌, sym, ap, ◌∙◌, subst}
-use mathlib.Core.List.{List, [], ◌∷◌, ◌++◌, append_assoc}
-use native.Mathlib.Omega.{arith}
+use Rattle.std.proofs.Common.{◌≡◌, ℕ, ◌+◌, ◌-◌, ◌*◌, ◌≤◌, ◌<◌, min, List, [], ◌∷◌, ◌++◌, append_assoc, length, take, ℤ, pos, sym, ap, ◌∙◌, subst, arith}
 use native.Mathlib.Decide.{dec_le}
 use borrow.Author.Tests.{eq-eqb, ne_eqb}
-use lib.IntN.{ℤ, pos}
-use lib.ListN.{length, take}
 use lib.Seq.{take_all, take-length}
-use Rattle.primitives.specs.declared.Cursor.{Cursor}
-use Rattle.primitives.specs.declared.Fault.{Fault}
 use Rattle.primitives.specs.Step.{Step, ok, no, map_step, times}
-use Rattle.primitives.specs.Answers.{number_of}
 use Rattle.primitives.proofs.Steps.{map_ok, map_no, times_stop, times_count}
-use Rattle.records.specs.declared.RecordFault.{RecordFault}
 use Rattle.records.specs.declared.RecordHeader.{RecordHeader}
 use Rattle.records.specs.declared.Record as Code
-use Rattle.records.specs.declared.CountRead.{CountRead}
-use Rattle.records.specs.declared.RecordHeaderRead.{RecordHeaderRead}
-use Rattle.records.specs.declared.RecordRead.{RecordRead}
-use Rattle.reading.specs.declared.Filled.{Filled}
-use Rattle.reading.specs.declared.Passed.{Passed}
 use Rattle.records.specs.Judgement.{HeaderSpans, RecordSpans, Head, count_at, header_at, head_at, with_headers, fields_at, record_at}
 use Rattle.records.specs.Rows.{header_row, record_row, Tables, tables}
-use Rattle.records.specs.Answers.{record_number_of, view_count, place_row, view_header, Heading, heading_of, view_record}
-use Rattle.reading.specs.Walk.{put, put_headers, Walked, walked_record, view_filled, view_walk}
+use Rattle.records.specs.Answers.{view_header, Heading, heading_of, view_record}
+use Rattle.reading.specs.Walk.{put, put_headers, Walked, walked_record}
 use Rattle.records.proofs.RecordMoves.{count_moves, record_moves}
 use Rattle.reading.proofs.Turns.{headers_again, headers_done, walk_on, again, stop, done}
 
 -- ---- headers; x is what the walk gives in all
 
 module _ (s : List ℕ) (t : List ℤ) (row k at : ℕ) (x : Step ℕ (List ℤ)) (inv : map_step (put_headers t row) (times (header_at s) k at) ≡ x) where
-  module _ (r : RecordHeaderRead) (e : view_header r ≡ map_step header_row (header_at s at)) (some : 0 < k) where
-    pub headers_stop : (f : RecordFault) → r ≡ RecordHeaderRead.Refused f → no (record_number_of f) ≡ x
-    headers_stop f g =
-        let refused = map_no header_row (header_at s at) (sym e ∙ ap view_header g) in
-        sym (times_stop (header_at s) (put_headers t row) k at some refused) ∙ inv
+  pub headers_stop : {n : ℕ} → 0 < k → no n ≡ map_step header_row (header_at s at) → no n ≡ x
+  headers_stop some e = sym (times_stop (header_at s) (put_headers t row) k at some (map_no header_row (header_at s at) (sym e))) ∙ inv
 
-    pub headers_turn : (h : RecordHeader) (next : Cursor) (t' : List ℤ) → r ≡ RecordHeaderRead.Got h next
-        → t' ≡ put 4 t row (place_row h.key ++ place_row h.value)
-        → map_step (put_headers t' (row + 1)) (times (header_at s) (k - 1) next.at) ≡ x
-    headers_turn h next t' f g =
-        let (y, is, same) = map_ok header_row (header_at s at) (sym e ∙ ap view_header f) in
-        ap (λ (u : List ℤ). map_step (put_headers u (row + 1)) (times (header_at s) (k - 1) next.at)) (g ∙ ap (put 4 t row) (sym same))
-        ∙ headers_again s t row k at some is ∙ inv
+  pub headers_turn : (h : RecordHeader) (next : ℕ) → 0 < k → ok (view_header h) next ≡ map_step header_row (header_at s at)
+      → map_step (put_headers (put 4 t row (view_header h)) (row + 1)) (times (header_at s) (k - 1) next) ≡ x
+  headers_turn h next some e =
+      let (y, is, same) = map_ok header_row (header_at s at) (sym e) in
+      ap (λ (u : List ℤ). map_step (put_headers (put 4 t row u) (row + 1)) (times (header_at s) (k - 1) next)) (sym same)
+      ∙ headers_again s t row k at some is ∙ inv
 
-  pub headers_end : k ≤ 0 → ok t at ≡ x
-  headers_end none = headers_done s t row k at (omega arith) ∙ inv
+  pub headers_end : k ≡ 0 → ok t at ≡ x
+  headers_end none = headers_done s t row k at none ∙ inv
 
 -- ---- the fields of a record
 
@@ -56,55 +38,40 @@ row_is : (first : ℕ) (h : Head) (hs : List HeaderSpans)
     → record_row first (with_headers h hs) ≡ (heading_of h).numbers ++ (pos first ∷ pos (length hs) ∷ [])
 row_is first h hs = rw append_assoc
 
-walked_is : (rs hs : List ℤ) (row first : ℕ) (h : Head) (ks : List HeaderSpans) {numbers rs' hs' : List ℤ} {n : ℕ} → (heading_of h).numbers ≡ numbers
-    → length ks ≡ n → rs' ≡ put 8 rs row (numbers ++ (pos first ∷ pos n ∷ [])) → put_headers hs first ks ≡ hs'
-    → ◌≡◌ {A = Walked} (record { headers = n; tables = tables rs' hs' }) (walked_record (tables rs hs) row first (with_headers h ks))
-walked_is rs hs row first h ks e n f g =
-    let p = f ∙ ap (put 8 rs row) ((λ i. sym e i ++ (pos first ∷ pos (sym n i) ∷ [])) ∙ sym (row_is first h ks)) in
-    λ i. record { headers = sym n i; tables = tables (p i) (sym g i) }
-
-fields_are : (s : List ℕ) (at row first : ℕ) (rs hs : List ℤ) (h : Head) (p : ℕ) → head_at s at ≡ ok h p → {numbers : List ℤ} {n : ℕ}
-    → (heading_of h).numbers ≡ numbers → h.count ≡ n → (ks : List HeaderSpans) (q : ℕ) → times (header_at s) n p ≡ ok ks q
-    → {rs' hs' : List ℤ} → rs' ≡ put 8 rs row (numbers ++ (pos first ∷ pos n ∷ [])) → put_headers hs first ks ≡ hs'
-    → ok (record { headers = n; tables = tables rs' hs' }) q ≡ map_step (walked_record (tables rs hs) row first) (fields_at s at)
-unfolding fields_at
-fields_are s at row first rs hs h p e f n ks q is g same =
-    let was : times (header_at s) h.count p ≡ ok ks q = ap (λ (m : ℕ). times (header_at s) m p) n ∙ is in
-    rw (e, was) (ap (λ (x : Walked). ok x q) (walked_is rs hs row first h ks f (times_count (header_at s) _ p is) g same))
-
-module _ (s : List ℕ) (at row first : ℕ) (rs hs : List ℤ) (a : RecordRead) (e : view_record a ≡ map_step heading_of (head_at s at)) where
-  pub fields_no_head : (f : Fault) → a ≡ RecordRead.Refused f → no (number_of f) ≡ map_step (walked_record (tables rs hs) row first) (fields_at s at)
+module _ (s : List ℕ) (at row first : ℕ) (rs hs : List ℤ) where
+  pub fields_no_head : {n : ℕ} → no n ≡ map_step heading_of (head_at s at) → no n ≡ map_step (walked_record (tables rs hs) row first) (fields_at s at)
   unfolding fields_at
-  fields_no_head f g = rw (map_no heading_of (head_at s at) (sym e ∙ ap view_record g))
+  fields_no_head e = rw (map_no heading_of (head_at s at) (sym e))
 
-  module _ (r : Code.Record) (next : Cursor) (f : a ≡ RecordRead.Got r next) (b : Filled) (hs' : List ℤ)
-      (e' : view_filled b hs' ≡ map_step (put_headers hs first) (times (header_at s) r.headers next.at)) where
-    head_is : (h : Head) × (head_at s at ≡ ok h next.at)
-        × (heading_of h ≡ record {
-          numbers = r.deltas.timestamp ∷ r.deltas.offset ∷ (place_row r.key ++ place_row r.value);
-          count = r.headers;
-        })
-    head_is = map_ok heading_of (head_at s at) (sym e ∙ ap view_record f)
+  module _ (r : Code.Record) (next : ℕ) (e : ok (view_record r) next ≡ map_step heading_of (head_at s at)) where
+    head_is : (h : Head) × (head_at s at ≡ ok h next) × (heading_of h ≡ view_record r)
+    head_is = map_ok heading_of (head_at s at) (sym e)
 
-    pub fields_no_headers : (g : RecordFault) → b ≡ Filled.Refused g
-        → no (record_number_of g) ≡ map_step (walked_record (tables rs hs) row first) (fields_at s at)
+    pub fields_no_headers : {n : ℕ} → no n ≡ map_step (put_headers hs first) (times (header_at s) r.headers next)
+        → no n ≡ map_step (walked_record (tables rs hs) row first) (fields_at s at)
     unfolding fields_at
-    fields_no_headers g h =
+    fields_no_headers e' =
         rw (
           head_is.1,
           ap (λ (x : Heading). x.count) head_is.2,
-          map_no (put_headers hs first) (times (header_at s) r.headers next.at) (sym e' ∙ ap (λ (x : Filled). view_filled x hs') h),
+          map_no (put_headers hs first) (times (header_at s) r.headers next) (sym e'),
         )
 
-    pub fields_got : (end : Cursor) (rs' : List ℤ) → b ≡ Filled.To end
-        → rs' ≡ put 8 rs row (r.deltas.timestamp ∷ r.deltas.offset ∷ (place_row r.key ++ (place_row r.value ++ (pos first ∷ pos r.headers ∷ []))))
-        → ok (record { headers = r.headers; tables = tables rs' hs' }) end.at ≡ map_step (walked_record (tables rs hs) row first) (fields_at s at)
-    fields_got end rs' g p =
-        let filled = sym e' ∙ ap (λ (x : Filled). view_filled x hs') g in
-        let (ks, is, same) = map_ok (put_headers hs first) (times (header_at s) r.headers next.at) filled in
-        let numbers = ap (λ (x : Heading). x.numbers) head_is.2 in
-        let count = ap (λ (x : Heading). x.count) head_is.2 in
-        fields_are s at row first rs hs head_is.0 next.at head_is.1 numbers count ks end.at is p same
+    pub fields_got : (end : ℕ) (hs' : List ℤ) → ok hs' end ≡ map_step (put_headers hs first) (times (header_at s) r.headers next)
+        → ok (record {
+          headers = r.headers;
+          tables = tables (put 8 rs row ((view_record r).numbers ++ (pos first ∷ pos r.headers ∷ []))) hs';
+        }) end ≡ map_step (walked_record (tables rs hs) row first) (fields_at s at)
+    unfolding fields_at
+    fields_got end hs' e' =
+        let (h, is, same) = head_is in
+        let count = ap (λ (x : Heading). x.count) same in
+        let (ks, were, filled) = map_ok (put_headers hs first) (times (header_at s) r.headers next) (sym e') in
+        let many = times_count (header_at s) r.headers next were in
+        let numbers : (view_record r).numbers ++ (pos first ∷ pos r.headers ∷ []) ≡ record_row first (with_headers h ks) =
+        (λ i. (sym same i).numbers ++ (pos first ∷ pos (sym many i) ∷ [])) ∙ sym (row_is first h ks) in
+        rw (is, count, were)
+        (λ i. ok (record { headers = sym many i; tables = tables (put 8 rs row (numbers i)) (sym filled i) }) end)
 
 -- ---- a record
 
@@ -118,64 +85,55 @@ take_min n s =
           ap (λ (m : ℕ). take m s) e ∙ take-length s ∙ sym (take_all n s (omega arith))
     ]
 
-pub length_within : (s : List ℕ) (at : ℕ) (a : CountRead) → view_count a ≡ count_at s at → (n : ℕ) (start : Cursor) → a ≡ CountRead.Got n start
-    → start.at ≤ length s
-length_within s at a e n start f = (count_moves s at (sym e ∙ ap view_count f)).1
+pub length_within : (s : List ℕ) (at : ℕ) {n start : ℕ} → ok n start ≡ count_at s at → start ≤ length s
+length_within s at e = (count_moves s at (sym e)).1
 
-module _ (s : List ℕ) (at row first : ℕ) (t : Tables) (a : CountRead) (e : view_count a ≡ count_at s at) where
-  pub record_no_length : (f : Fault) → a ≡ CountRead.Refused f → no (number_of f) ≡ map_step (walked_record t row first) (record_at s at)
+module _ (s : List ℕ) (at row first : ℕ) (t : Tables) where
+  pub record_no_length : {n : ℕ} → no n ≡ count_at s at → no n ≡ map_step (walked_record t row first) (record_at s at)
   unfolding record_at
-  record_no_length f g = rw (sym e ∙ ap view_count g)
+  record_no_length e = rw (← e)
 
-  module _ (n : ℕ) (start : Cursor) (f : a ≡ CountRead.Got n start) where
-    module _ (end : ℕ) (g : end ≡ min (start.at + n) (length s)) (b : Passed) (t' : Tables)
-        (e' : view_walk b t' ≡ map_step (walked_record t row first) (fields_at (take end s) start.at)) where
-      window : view_walk b t' ≡ map_step (walked_record t row first) (fields_at (take (start.at + n) s) start.at)
-      window =
-          let same = ap (λ (m : ℕ). take m s) g ∙ take_min (start.at + n) s in
-          e' ∙ ap (λ (w : List ℕ). map_step (walked_record t row first) (fields_at w start.at)) same
+  -- the fields, read up to the nearer end
+  module _ (n start : ℕ) {x : Step ℕ Walked}
+      (e' : x ≡ map_step (walked_record t row first) (fields_at (take (min (start + n) (length s)) s) start)) where
+    window : map_step (walked_record t row first) (fields_at (take (start + n) s) start) ≡ x
+    window = sym (e' ∙ ap (λ (w : List ℕ). map_step (walked_record t row first) (fields_at w start)) (take_min (start + n) s))
 
-      pub record_refused : (h : RecordFault) → b ≡ Passed.Refused h → no (record_number_of h) ≡ map_step (walked_record t row first) (record_at s at)
+  module _ (n start : ℕ) (e : ok n start ≡ count_at s at) where
+    pub record_refused : {m : ℕ} → no m ≡ map_step (walked_record t row first) (fields_at (take (min (start + n) (length s)) s) start)
+        → no m ≡ map_step (walked_record t row first) (record_at s at)
+    unfolding record_at
+    record_refused f = rw (← e, map_no (walked_record t row first) (fields_at (take (start + n) s) start) (window n start f))
+
+    module _ {w : Walked} {next : ℕ} (f : ok w next ≡ map_step (walked_record t row first) (fields_at (take (min (start + n) (length s)) s) start)) where
+      fields_read : (r : RecordSpans) × (fields_at (take (start + n) s) start ≡ ok r next) × (walked_record t row first r ≡ w)
+      fields_read = map_ok (walked_record t row first) (fields_at (take (start + n) s) start) (window n start f)
+
+      pub record_got_lem : next ≡ start + n → ok w next ≡ map_step (walked_record t row first) (record_at s at)
       unfolding record_at
-      record_refused h i =
-          let refused = sym window ∙ ap (λ (x : Passed). view_walk x t') i in
-          rw (sym e ∙ ap view_count f, map_no (walked_record t row first) (fields_at (take (start.at + n) s) start.at) refused)
+      record_got_lem i = rw (← e, fields_read.1, eq-eqb next (start + n) i) (ap (λ (w : Walked). ok w next) (sym fields_read.2))
 
-      module _ (m : ℕ) (next : Cursor) (h : b ≡ Passed.Headers m next) where
-        fields_read : (r : RecordSpans) × (fields_at (take (start.at + n) s) start.at ≡ ok r next.at)
-            × (walked_record t row first r ≡ record { headers = m; tables = t' })
-        fields_read =
-            let passed = sym window ∙ ap (λ (x : Passed). view_walk x t') h in
-            map_ok (walked_record t row first) (fields_at (take (start.at + n) s) start.at) passed
-
-        pub record_got_lem : next.at ≡ start.at + n
-            → ok (record { headers = m; tables = t' }) next.at ≡ map_step (walked_record t row first) (record_at s at)
-        unfolding record_at
-        record_got_lem i =
-            rw (sym e ∙ ap view_count f, fields_read.1, eq-eqb next.at (start.at + n) i)
-            (ap (λ (w : Walked). ok w next.at) (sym fields_read.2))
-
-        pub record_left : (next.at ≡ start.at + n → ⊥) → no 13 ≡ map_step (walked_record t row first) (record_at s at)
-        unfolding record_at
-        record_left i = rw (sym e ∙ ap view_count f, fields_read.1, ne_eqb next.at (start.at + n) i)
+      pub record_left : (next ≡ start + n → ⊥) → no 13 ≡ map_step (walked_record t row first) (record_at s at)
+      unfolding record_at
+      record_left i = rw (← e, fields_read.1, ne_eqb next (start + n) i)
 
 -- ---- a run of records; x is what the walk gives in all
 
 -- how far a record of n headers moves
-pub walked_moves : (s : List ℕ) (at row first : ℕ) (t : Tables) (b : Passed) (t' : Tables)
-    → view_walk b t' ≡ map_step (walked_record t row first) (record_at s at) → (n : ℕ) (next : Cursor) → b ≡ Passed.Headers n next
-    → (at + 7 + 2 * n ≤ next.at) × (next.at ≤ length s)
-walked_moves s at row first t b t' e n next f =
-    let (r, is, w) = map_ok (walked_record t row first) (record_at s at) (sym e ∙ ap (λ (x : Passed). view_walk x t') f) in
-    subst (λ (m : ℕ). (at + 7 + 2 * m ≤ next.at) × (next.at ≤ length s)) (ap (λ (x : Walked). x.headers) w) (record_moves s at is)
+pub walked_moves : (s : List ℕ) (at row first : ℕ) (t : Tables) {w : Walked} {next : ℕ}
+    → ok w next ≡ map_step (walked_record t row first) (record_at s at) → (at + 7 + 2 * w.headers ≤ next) × (next ≤ length s)
+walked_moves s at row first t {w} {next} e =
+    let (r, is, same) = map_ok (walked_record t row first) (record_at s at) (sym e) in
+    subst (λ (m : ℕ). (at + 7 + 2 * m ≤ next) × (next ≤ length s)) (ap (λ (x : Walked). x.headers) same) (record_moves s at is)
 
 module _ (s : List ℕ) (t : Tables) (row first sum k at : ℕ) (x : Step ℕ Walked) (inv : walk_on s t row first sum k at ≡ x) where
-  module _ (b : Passed) (t' : Tables) (e : view_walk b t' ≡ map_step (walked_record t row (first + sum)) (record_at s at)) (some : 0 < k) where
-    pub run_stop : (f : RecordFault) → b ≡ Passed.Refused f → no (record_number_of f) ≡ x
-    run_stop f g = stop s t row first sum k at some (sym e ∙ ap (λ (y : Passed). view_walk y t') g) ∙ inv
+  pub run_stop : {n : ℕ} → 0 < k → no n ≡ map_step (walked_record t row (first + sum)) (record_at s at) → no n ≡ x
+  run_stop some e = stop s t row first sum k at some (sym e) ∙ inv
 
-    pub run_turn : (n : ℕ) (next : Cursor) → b ≡ Passed.Headers n next → walk_on s t' (row + 1) first (sum + n) (k - 1) next.at ≡ x
-    run_turn n next f = again s t row first sum k at some (sym e ∙ ap (λ (y : Passed). view_walk y t') f) ∙ inv
+  pub run_turn : {n next : ℕ} {t' : Tables} → 0 < k
+      → ok (record { headers = n; tables = t' }) next ≡ map_step (walked_record t row (first + sum)) (record_at s at)
+      → walk_on s t' (row + 1) first (sum + n) (k - 1) next ≡ x
+  run_turn some e = again s t row first sum k at some (sym e) ∙ inv
 
-  pub run_end : k ≤ 0 → ok (record { headers = sum; tables = t }) at ≡ x
-  run_end none = done s t row first sum k at (omega arith) ∙ inv
+  pub run_end : k ≡ 0 → ok (record { headers = sum; tables = t }) at ≡ x
+  run_end none = done s t row first sum k at none ∙ inv

@@ -1,21 +1,22 @@
 -- What each public function promises of its result and of the lent tables, for every input. Lent bytes are lent to be
 -- read: no function here can change them.
-use Rattle.std.specs.Prelude.{ℕ, ◌≡◌, List}
+use Rattle.std.specs.Prelude.{ℕ, ◌≡◌, List, Result}
 use Rattle.numbers.specs.Pick.{pick}
 use Rattle.primitives.specs.Step.{Step, ok, no, map_step}
+use Rattle.records.specs.declared.RecordFault.{RecordFault}
 use Rattle.records.specs.Judgement.{RecordSpans, records_at}
 use Rattle.records.specs.Rows.{Tables, roomy, with_rows}
-use Rattle.reading.specs.declared.RecordsCheck.{RecordsCheck}
-use Rattle.reading.specs.declared.RecordsRead.{RecordsRead}
+use Rattle.reading.specs.declared.RecordsFound.{RecordsFound}
+use Rattle.reading.specs.declared.RecordsError.{RecordsError}
 use Rattle.reading.specs.Answers.{Answer, accepted, no_room, refused, counts_of, view_check, view_read}
 
 -- check_records, on bytes s, a place and a number of records
-abbrev pub CheckRecordsPromise : List ℕ → ℕ → ℕ → RecordsCheck → Type 0
+abbrev pub CheckRecordsPromise : List ℕ → ℕ → ℕ → Result RecordsFound RecordFault → Type 0
 CheckRecordsPromise s at count r = view_check r ≡ map_step counts_of (records_at s count at)
 
 -- the result of read_records, with both tables at exit
 pub record ReadOutcome : Type 0 where
-  pub result : RecordsRead
+  pub result : Result RecordsFound RecordsError
   pub tables : Tables
 
 -- what is due, by the judgement and the tables at entry: the answer, and the tables at exit

@@ -1,13 +1,14 @@
 -- Words of private contracts: none of them stands in a promise. What the steps of the walk give, and the tables as the
 -- walk fills them, row after row.
-use Rattle.std.specs.Prelude.{ℕ, ◌+◌, ◌*◌, List, [], ◌∷◌, ◌++◌, leb, ℤ, length, take, drop}
+use Rattle.std.specs.Prelude.{ℕ, ◌+◌, ◌*◌, Result, Ok, Err, List, [], ◌∷◌, ◌++◌, leb, ℤ, length, take, drop}
 use Rattle.numbers.specs.Pick.{pick}
+use Rattle.primitives.specs.declared.Cursor.{Cursor}
 use Rattle.primitives.specs.Step.{Step, ok, no}
+use Rattle.primitives.specs.Answers.{view_read}
+use Rattle.records.specs.declared.RecordFault.{RecordFault}
 use Rattle.records.specs.Judgement.{HeaderSpans, RecordSpans}
 use Rattle.records.specs.Rows.{header_row, record_row, headers_in, Tables, tables}
 use Rattle.records.specs.Answers.{record_number_of}
-use Rattle.reading.specs.declared.Filled.{Filled}
-use Rattle.reading.specs.declared.Passed.{Passed}
 
 -- ---- tables
 
@@ -28,9 +29,9 @@ unfoldable pub put_records : Tables → ℕ → ℕ → List RecordSpans → Tab
 put_records t row first [] = t
 put_records t row first (r ∷ rest) = put_records (put_record t row first r) (row + 1) (first + length r.headers) rest
 
-abbrev pub view_filled : Filled → List ℤ → Step ℕ (List ℤ)
-view_filled (Filled.To c) t = ok t c.at
-view_filled (Filled.Refused f) t = no (record_number_of f)
+abbrev pub view_filled : Result Cursor RecordFault → List ℤ → Step ℕ (List ℤ)
+view_filled (Ok c) t = ok t c.at
+view_filled (Err f) t = no (record_number_of f)
 
 -- ---- the walk: how many headers were passed, and what the tables hold
 
@@ -44,6 +45,5 @@ walked_record t row first r = record { headers = length r.headers; tables = put_
 abbrev pub walked_records : Tables → ℕ → ℕ → List RecordSpans → Walked
 walked_records t row first rs = record { headers = headers_in rs; tables = put_records t row first rs }
 
-abbrev pub view_walk : Passed → Tables → Step ℕ Walked
-view_walk (Passed.Headers n c) t = ok (record { headers = n; tables = t }) c.at
-view_walk (Passed.Refused f) t = no (record_number_of f)
+abbrev pub view_walk : Result (ℕ × Cursor) RecordFault → Tables → Step ℕ Walked
+view_walk r t = view_read record_number_of (λ n. record { headers = n; tables = t }) r

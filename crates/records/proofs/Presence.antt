@@ -39,7 +39,7 @@ module _ (s : List ℕ) (p : ℕ) where
       let z : ◌≡◌ {A = ℕ} 0 1 = cc in
       absurd (omega arith)
 
-  null_bytes : {q : ℕ} {X : Type 0} → span_at false s p ≡ ok none q → X
+  pub null_bytes : {q : ℕ} {X : Type 0} → span_at false s p ≡ ok none q → X
   unfolding span_at
   null_bytes e = let (o, m, i, j) = and_then_ok (length_at false s p) (span_of s) e in never_null_bytes o m i j
 

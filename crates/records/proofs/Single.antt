@@ -1,23 +1,16 @@
 -- Each promise admits a single answer: from what the answer says it can be made again. Assumes nothing.
-use Prim.Native.Nat.{ℕ, suc}
-use mathlib.Core.Path.{◌≡◌, refl, ap}
-use mathlib.Core.List.{List}
-use lib.Dec.{eqb}
-use lib.IntN.{ℤ, pos}
-use lib.ListN.{get_or}
-use Rattle.primitives.specs.declared.Fault.TheVariants.{PastEnd, BeyondLimits, NegativeLength}
+use Rattle.std.proofs.Common.{◌≡◌, ℕ, suc, eqb, List, get_or, ℤ, pos, refl}
 use Rattle.numbers.specs.Pick.{pick}
 use Rattle.numbers.specs.Single.{Single}
-use Rattle.numbers.proofs.Single.{single_value, single_view}
-use Rattle.primitives.specs.Step.{Step, ok, no}
-use Rattle.primitives.proofs.Single.{fault_again, back}
+use Rattle.numbers.proofs.Single.{single_value}
+use Rattle.primitives.specs.declared.Fault.TheVariants.{PastEnd, BeyondLimits, NegativeLength}
+use Rattle.primitives.proofs.Single.{single_read_by, single_read_of}
 use Rattle.records.specs.declared.RecordFault.{RecordFault}
 use Rattle.records.specs.declared.RecordFault.TheVariants.{Field, KeyNotUtf8, BytesLeft}
 use Rattle.records.specs.declared.Place.{Place}
-use Rattle.records.specs.declared.CountRead.{CountRead}
-use Rattle.records.specs.declared.RecordHeaderRead.{RecordHeaderRead}
-use Rattle.records.specs.declared.RecordRead.{RecordRead}
-use Rattle.records.specs.Answers.{record_number_of, view_count, view_header, Heading, view_record}
+use Rattle.records.specs.declared.RecordHeader.{RecordHeader}
+use Rattle.records.specs.declared.Record.{Record}
+use Rattle.records.specs.Answers.{record_number_of, view_header, Heading, view_record}
 use Rattle.records.specs.Promises.{RecordNumberPromise, ReadCountPromise, ReadHeaderPromise, ReadRecordPromise}
 
 pub single_record_number : (f : RecordFault) → Single (RecordNumberPromise f)
@@ -42,34 +35,34 @@ refusal_again refused other (Field NegativeLength) = refl
 refusal_again refused other KeyNotUtf8 = refl
 refusal_again refused other BytesLeft = refl
 
+-- the fault with that number
+abbrev pub record_fault_of : ℕ → RecordFault
+record_fault_of = refusal (λ f. f) KeyNotUtf8
+
+pub record_fault_again : (f : RecordFault) → record_fault_of (record_number_of f) ≡ f
+record_fault_again = refusal_again (λ f. f) KeyNotUtf8
+
 pub single_read_count : (s : List ℕ) (at : ℕ) → Single (ReadCountPromise s at)
-single_read_count s at =
-    single_view view_count (back (λ n p. CountRead.Got n (record { at = p })) CountRead.Refused)
-    (λ r. elim r as (λ k. (back (λ n p. CountRead.Got n (record { at = p })) CountRead.Refused) (view_count k) ≡ k) [ CountRead.Got n c ↦ refl | CountRead.Refused f ↦ ap CountRead.Refused (fault_again f) ]) _
+single_read_count s at = single_read_of (λ (n : ℕ). n) (λ n. n) (λ n. refl) _
 
 -- the place that two numbers of a row say, from number k on
 abbrev place_of : List ℤ → ℕ → Place
 place_of row k = record { start = get_or row k (pos 0); len = get_or row (suc k) (pos 0) }
 
-abbrev header_read : Step ℕ (List ℤ) → RecordHeaderRead
-header_read (ok row p) = RecordHeaderRead.Got (record { key = place_of row 0; value = place_of row 2 }) (record { at = p })
-header_read (no m) = refusal RecordHeaderRead.Refused (RecordHeaderRead.Refused KeyNotUtf8) m
+abbrev header_of : List ℤ → RecordHeader
+header_of row = record { key = place_of row 0; value = place_of row 2 }
 
 pub single_read_header : (s : List ℕ) (at : ℕ) → Single (ReadHeaderPromise s at)
-single_read_header s at =
-    single_view view_header header_read
-    (λ r. elim r as (λ k. header_read (view_header k) ≡ k) [ RecordHeaderRead.Got h c ↦ refl | RecordHeaderRead.Refused f ↦ refusal_again RecordHeaderRead.Refused _ f ]) _
+single_read_header s at = single_read_by record_number_of record_fault_of record_fault_again view_header header_of (λ h. refl) _
 
-abbrev record_got : Heading → ℕ → RecordRead
-record_got h p =
-    RecordRead.Got (record {
+abbrev record_of : Heading → Record
+record_of h =
+    record {
       deltas = record { timestamp = get_or h.numbers 0 (pos 0); offset = get_or h.numbers 1 (pos 0) };
       key = place_of h.numbers 2;
       value = place_of h.numbers 4;
       headers = h.count;
-    }) (record { at = p })
+    }
 
 pub single_read_record : (s : List ℕ) (at : ℕ) → Single (ReadRecordPromise s at)
-single_read_record s at =
-    single_view view_record (back record_got RecordRead.Refused)
-    (λ r. elim r as (λ k. (back record_got RecordRead.Refused) (view_record k) ≡ k) [ RecordRead.Got h c ↦ refl | RecordRead.Refused f ↦ ap RecordRead.Refused (fault_again f) ]) _
+single_read_record s at = single_read_of view_record record_of (λ r. refl) _

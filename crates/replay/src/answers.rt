@@ -1,13 +1,17 @@
 // What is printed of a case: one line where it is refused; otherwise its fields, its records with their headers, the
 // bytes that are written for it, and whether it is canonical.
-ghost use Rattle.std.specs.Prelude.{◌+◌, ◌/◌, ◌≤◌, ◌<◌, length};
-
-use crate::text::{print, print_bytes, print_hexadecimal, print_signed, within};
-use batches::{BatchRead, ControlBatchOrRecords, RecordBatch};
+use crate::text::{part, print, print_bytes, print_hexadecimal};
+use batches::{ControlBatchOrRecords, ReadError, RecordBatch};
 use layout::{ControlMode, RecordBatchTimestampType};
-use records::{Record, RecordHeader};
 use std::io;
-use writing::Written;
+
+// What the rows of a batch are taken from, and the rows themselves.
+#[derive(Clone, Copy)]
+struct Rows<'a> {
+    source: &'a [u8],
+    records: &'a [i64],
+    headers: &'a [i64],
+}
 
 // How many bytes may be written for a case.
 const ROOM: usize = 65536;
@@ -17,17 +21,17 @@ pub fn answer(rt: &impl Print, bytes: &[u8]) -> io::Result<()> {
     let mut records = [0i64; 8192];
     let mut headers = [0i64; 8192];
     match RecordBatch::read(ControlMode::Keyed, bytes, &mut records, &mut headers) {
-        BatchRead::Accepted {
-            batch,
-            kind,
-            headers: _,
-            consumed,
-        } => print_accepted(rt, batch, kind, consumed, bytes, &records, &headers),
-        BatchRead::NoRoom {
-            records: _,
-            headers: _,
-        } => print(rt, b"no room\n"),
-        _ => print(rt, b"refused\n"),
+        Ok(found) => print_accepted(
+            rt,
+            found.batch,
+            found.kind,
+            found.consumed,
+            bytes,
+            &records,
+            &headers,
+        ),
+        Err(ReadError::NoRoom { .. }) => print(rt, b"no room\n"),
+        Err(_) => print(rt, b"refused\n"),
     }
 }
 
@@ -36,32 +40,34 @@ fn print_accepted(
     batch: RecordBatch,
     kind: ControlBatchOrRecords,
     consumed: usize,
-    bytes: &[u8],
+    source: &[u8],
     records: &[i64],
     headers: &[i64],
 ) -> io::Result<()> {
+    let rows = Rows {
+        source,
+        records,
+        headers,
+    };
     print_fields(rt, batch, consumed)?;
-    print_content(rt, kind, bytes, records, headers)?;
-    print_written(rt, batch, kind, bytes, records, headers)?;
-    if RecordBatch::is_canonical(ControlMode::Keyed, bytes) {
-        return print(rt, b"canonical yes\n");
+    print_content(rt, kind, rows)?;
+    print_written(rt, batch, kind, rows)?;
+    if RecordBatch::is_canonical(ControlMode::Keyed, source) {
+        return println!(rt; "canonical yes");
     }
-    print(rt, b"canonical no\n")
+    println!(rt; "canonical no")
 }
 
 fn print_fields(rt: &impl Print, b: RecordBatch, consumed: usize) -> io::Result<()> {
-    let timestamp_type = b.timestamp_type;
-    print!(rt; "accepted {consumed}")?;
-    print_signed(rt, b.base_offset)?;
-    print_signed(rt, b.partition_leader_epoch as i64)?;
-    print_signed(rt, b.last_offset_delta as i64)?;
-    print_signed(rt, b.first_timestamp)?;
-    print_signed(rt, b.max_timestamp)?;
-    print_signed(rt, b.producer_id)?;
-    print_signed(rt, b.producer_epoch as i64)?;
-    print_signed(rt, b.base_sequence as i64)?;
-    print_type(rt, timestamp_type)?;
-    print_signed(rt, b.is_transactional as i64)
+    print!(rt;
+        "accepted {consumed} {} {}",
+        b.base_offset, b.partition_leader_epoch
+    )?;
+    print!(rt; " {} {}", b.last_offset_delta, b.first_timestamp)?;
+    print!(rt; " {} {}", b.max_timestamp, b.producer_id)?;
+    print!(rt; " {} {}", b.producer_epoch, b.base_sequence)?;
+    print_type(rt, b.timestamp_type)?;
+    print!(rt; " {}", i64::from(b.is_transactional))
 }
 
 fn print_type(rt: &impl Print, t: RecordBatchTimestampType) -> io::Result<()> {
@@ -72,100 +78,75 @@ fn print_type(rt: &impl Print, t: RecordBatchTimestampType) -> io::Result<()> {
 }
 
 // No stored answer has a marker: the Rust has none in the key of a record, and those alone are withdrawn.
-fn print_content(
-    rt: &impl Print,
-    kind: ControlBatchOrRecords,
-    source: &[u8],
-    records: &[i64],
-    headers: &[i64],
-) -> io::Result<()> {
+fn print_content(rt: &impl Print, kind: ControlBatchOrRecords, rows: Rows) -> io::Result<()> {
     match kind {
         ControlBatchOrRecords::ControlBatch(_) => print(rt, b" marker\n"),
         ControlBatchOrRecords::Records(count) => {
             print(rt, b" records\n")?;
-            print_records(rt, source, records, headers, count)
+            print_records(rt, rows, count)
         }
     }
 }
 
-fn print_records(
-    rt: &impl Print,
-    source: &[u8],
-    records: &[i64],
-    headers: &[i64],
-    count: usize,
-) -> io::Result<()> {
-    if records.len() / Record::ROW < count {
-        return print(rt, b"no room\n");
-    }
-    let mut row = 0;
-    while row < count {
-        print_record(rt, source, records, headers, row)?;
-        row += 1;
+fn print_records(rt: &impl Print, rows: Rows, count: usize) -> io::Result<()> {
+    let (records, _) = rows.records.as_chunks::<8>();
+    let Some(records) = records.get(..count) else {
+        return println!(rt; "no room");
+    };
+    for record in records {
+        print_record(rt, rows, *record)?;
     }
     Ok(())
 }
 
-fn print_record(
-    rt: &impl Print,
-    source: &[u8],
-    records: &[i64],
-    headers: &[i64],
-    row: usize,
-) -> io::Result<()>
-    requires { row < length records.now / 8 }
-{
-    let at = row * Record::ROW;
-    print(rt, b"record")?;
-    print_signed(rt, records[at])?;
-    print_signed(rt, records[at + 1])?;
-    print_key_and_value(rt, source, records, at + 2)?;
-    print_headers(rt, source, headers, records[at + 6], records[at + 7])
-}
-
-fn print_headers(
-    rt: &impl Print,
-    source: &[u8],
-    headers: &[i64],
-    first: i64,
-    count: i64,
-) -> io::Result<()> {
-    let rows = within(first, count, headers.len() / RecordHeader::ROW);
-    let end = rows.start + rows.len;
-    let mut row = rows.start;
-    while row < end {
-        print(rt, b"header")?;
-        print_key_and_value(rt, source, headers, row * RecordHeader::ROW)?;
-        row += 1;
+fn print_record(rt: &impl Print, rows: Rows, record: [i64; 8]) -> io::Result<()> {
+    let [
+        timestamp,
+        offset,
+        key,
+        key_len,
+        value,
+        value_len,
+        first_header,
+        headers,
+    ] = record;
+    print!(rt; "record {timestamp} {offset}")?;
+    print_key_and_value(rt, rows.source, [key, key_len, value, value_len])?;
+    let (all, _) = rows.headers.as_chunks::<4>();
+    for header in part(all, first_header, headers).unwrap_or_default() {
+        print!(rt; "header")?;
+        print_key_and_value(rt, rows.source, *header)?;
     }
     Ok(())
 }
 
-// The end of a line: what four numbers of a row from `at` on stand for.
-fn print_key_and_value(rt: &impl Print, source: &[u8], row: &[i64], at: usize) -> io::Result<()>
-    requires { at + 4 ≤ length row.now }
-{
-    print_bytes(rt, source, row[at], row[at + 1])?;
-    print_bytes(rt, source, row[at + 2], row[at + 3])?;
-    print(rt, b"\n")
+// The end of a line: what four numbers of a row stand for.
+fn print_key_and_value(rt: &impl Print, source: &[u8], numbers: [i64; 4]) -> io::Result<()> {
+    let [key, key_len, value, value_len] = numbers;
+    print_bytes(rt, source, key, key_len)?;
+    print_bytes(rt, source, value, value_len)?;
+    println!(rt; "")
 }
 
 fn print_written(
     rt: &impl Print,
     batch: RecordBatch,
     kind: ControlBatchOrRecords,
-    source: &[u8],
-    records: &[i64],
-    headers: &[i64],
+    rows: Rows,
 ) -> io::Result<()> {
+    let Rows {
+        source,
+        records,
+        headers,
+    } = rows;
     let mut output = [0u8; ROOM];
     let keyed = ControlMode::Keyed;
     match batch.write(keyed, 0, kind, records, headers, source, &mut output) {
-        Written::Bytes(n) => {
+        Ok(n) => {
             print(rt, b"written ")?;
             print_hexadecimal(rt, &output[..n])?;
             print(rt, b"\n")
         }
-        Written::Refused(_) => print(rt, b"not written\n"),
+        Err(_) => print(rt, b"not written\n"),
     }
 }

@@ -4,14 +4,14 @@
 // the other, each after its length in four bytes; they have at most 65,536 bytes in all.
 #![tactic(auto)]
 
+ghost use Rattle.std.specs.Prelude.{◌<◌, length, IfSome};
+
 mod answers;
 mod text;
 
 use answers::answer;
 use cases::input::read_full;
-use primitives::{Cursor, Uint32Read};
 use std::io;
-use text::print;
 
 // How many bytes the cases may have.
 const ROOM: usize = 65536;
@@ -23,19 +23,21 @@ fn main(rt: HostRuntime) -> io::Result<()> {
 }
 
 fn replay(rt: &impl Print, input: &[u8]) -> io::Result<()> {
-    let mut at = 0;
-    while at < input.len() {
-        let Uint32Read::Got(size, next) = (Cursor { at }).read_uint32(input) else {
-            return print(rt, b"cut\n");
+    let mut rest = input;
+    while !rest.is_empty() {
+        let Some((case, others)) = split_case(rest) else {
+            return println!(rt; "cut");
         };
-        let start = next.at;
-        let size = size.0 as usize;
-        if input.len() - start < size {
-            return print(rt, b"cut\n");
-        }
-        let end = start + size;
-        answer(rt, &input[start..end])?;
-        at = end;
+        answer(rt, case)?;
+        rest = others;
     }
     Ok(())
+}
+
+// The first case, and what stands after it; nothing where the input ends within it.
+fn split_case(input: &[u8]) -> Option<(&[u8], &[u8])>
+    ensures { IfSome result (λ parts. length parts.1.now < length input.now) }
+{
+    let (size, rest) = input.split_first_chunk()?;
+    rest.split_at_checked(u32::from_be_bytes(*size) as usize)
 }

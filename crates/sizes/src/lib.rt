@@ -13,8 +13,7 @@ const CAP: usize = 2147483648;
 pub fn number_size(n: i64) -> usize
     ensures { NumberSizePromise n result }
 {
-    let shortest = Varlong(n).encode();
-    shortest.len
+    Varlong(n).encode().len
 }
 
 // As many bytes after their length. Most are so few that their length is one byte.
@@ -24,9 +23,7 @@ pub fn span_size(len: usize) -> usize
     if len < 64 {
         return 1 + len;
     }
-    if CAP <= len {
-        return CAP;
-    }
+    let len = capped(len);
     capped(number_size(len as i64) + len)
 }
 
@@ -34,14 +31,14 @@ pub fn span_size(len: usize) -> usize
 pub fn place_size(len: i64) -> usize
     ensures { PlaceSizePromise len result }
 {
-    if 0 <= len {
-        return span_size(len as usize);
+    match usize::try_from(len) {
+        Ok(len) => span_size(len),
+        Err(_) => number_size(len),
     }
-    number_size(len)
 }
 
 pub fn capped(n: usize) -> usize
     ensures { CappedPromise n result }
 {
-    if n < CAP { n } else { CAP }
+    n.min(CAP)
 }

@@ -18,7 +18,7 @@ use Rattle.utf8.proofs.Bounds.{up_to}
 pub inside : (r : Range) (a : ℕ) → r.first ≤ a → a ≤ r.last → holds r a ≡ true
 inside r a h k = rw (le-leb _ _ h, le-leb _ _ k)
 
-pub below : (r : Range) (a : ℕ) → a < r.first → holds r a ≡ false
+below : (r : Range) (a : ℕ) → a < r.first → holds r a ≡ false
 below r a h = rw (lt-leb _ _ h)
 
 above : (r : Range) (a : ℕ) → r.last < a → holds r a ≡ false

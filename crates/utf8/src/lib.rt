@@ -1,125 +1,102 @@
 // Whether bytes are UTF-8 by RFC 3629: no surrogates, no longer forms than needed, nothing above 10FFFF.
 #![tactic(auto)]
 
-ghost use Rattle.std.specs.Prelude.{◌≡◌, true, [], ◌+◌, ◌≤◌, ◌<◌, length, get_or};
-ghost use Rattle.utf8.specs.Judgement.{from, holds};
+ghost use Rattle.std.specs.Prelude.{◌≡◌, false, [], ◌≤◌, ◌<◌, length, get_or, drop, nat_lt, fold, max};
+ghost use Rattle.std.specs.List.{list_all};
+ghost use Rattle.std.specs.Range.{range_inclusive_start, range_inclusive_end, range_inclusive_exhausted};
+ghost use Rattle.utf8.specs.Judgement.{tail, holds, is_utf8};
 ghost use Rattle.utf8.specs.Promises.{IsUtf8Promise};
-ghost use Rattle.utf8.specs.Steps.{Passed, Judged, following};
+ghost use Rattle.utf8.specs.Steps.{Judged, following};
+
+use std::ops::RangeInclusive;
 
 // Whether `s` is a sequence of whole characters, or empty.
 pub fn is_utf8(s: &[u8]) -> bool
     ensures { IsUtf8Promise s.now result }
 {
-    let mut i = 0;
-    while i < s.len() {
-        if s[i] < 0x80 {
-            i = ascii_end(s, i);
+    let mut rest = s;
+    while let Some(&first) = rest.first() {
+        if first < 0x80 {
+            rest = after_ascii(rest);
         } else {
-            let n = longer(s, i);
-            if n == 0 {
+            let Some(after) = after_longer(rest) else {
                 return false;
-            }
-            i += n;
+            };
+            rest = after;
         }
     }
     true
 }
 
-// Where the run of ASCII that begins at i ends.
-fn ascii_end(s: &[u8], i: usize) -> usize
-    requires { (i < length s.now) × (get_or s.now i 0 < 0x80) }
-    ensures { (i < result) × (result ≤ length s.now) × Passed [] s.now i [] result }
+// What follows the run of ASCII that `s` begins with.
+fn after_ascii(s: &[u8]) -> &[u8]
+    requires { (0 < length s.now) × (get_or s.now 0 0 < 0x80) }
+    ensures shorter { length result.now < length s.now }
+    ensures same { is_utf8 s.now ≡ is_utf8 result.now }
 {
-    let mut end = ascii_blocks(s, i);
-    while end < s.len() {
-        if 0x80 <= s[end] {
-            return end;
-        }
-        end += 1;
-    }
-    end
+    let rest = &s[ascii_blocks(s)..];
+    let end = rest.iter().take_while(|b| **b < 0x80).count();
+    &rest[end..]
 }
 
-// Where the blocks of 16 bytes from i on that are all ASCII end.
-fn ascii_blocks(s: &[u8], i: usize) -> usize
-    requires { i ≤ length s.now }
-    ensures { (i ≤ result) × (result ≤ length s.now) × Passed [] s.now i [] result }
+// How many bytes there are in the blocks of 16 that `s` begins with and that are all ASCII.
+fn ascii_blocks(s: &[u8]) -> usize
+    ensures bound { result ≤ length s.now }
+    ensures same { is_utf8 s.now ≡ is_utf8 (drop result s.now) }
 {
-    let mut end = i;
-    while 16 <= s.len() - end {
-        if !ascii_block(s, end) {
-            return end;
-        }
-        end += 16;
-    }
-    end
+    let (blocks, _) = s.as_chunks::<16>();
+    16 * blocks.iter().take_while(|block| ascii_block(block)).count()
 }
 
-// Whether the 16 bytes from i on are ASCII. It looks at all of them whatever they are, so that the processor can do so
-// at once.
-fn ascii_block(s: &[u8], i: usize) -> bool
-    requires { i + 16 ≤ length s.now }
-    ensures { result ≡ true → Passed [] s.now i [] (i + 16) }
+// Whether 16 bytes are ASCII. It looks at all of them whatever they are, so that the processor can do so at once.
+fn ascii_block(block: &[u8; 16]) -> bool
+    ensures { result ≡ nat_lt (fold max 0 block.now) 0x80 }
 {
-    let mut most = 0;
-    let mut k = 0;
-    while k < 16 {
-        most = greater(most, s[i + k]);
-        k += 1;
-    }
+    let most = block.iter().fold(0, |most, &b| b.max(most));
     most < 0x80
 }
 
-fn greater(a: u8, b: u8) -> u8
-    ensures { (a ≤ result) × (b ≤ result) }
+// What follows the character that `s` begins with, by the rows of RFC 3629, section 4; or None where it begins with
+// none.
+fn after_longer(s: &[u8]) -> Option<&[u8]>
+    requires { (0 < length s.now) × (0x80 ≤ get_or s.now 0 0) }
+    ensures { Judged [] s.now s.now result }
 {
-    if a < b { b } else { a }
-}
-
-// The number of octets of the character at i, or 0 where none stands there, by the rows of RFC 3629, section 4.
-fn longer(s: &[u8], i: usize) -> usize
-    requires { (i < length s.now) × (0x80 ≤ get_or s.now i 0) }
-    ensures { Judged [] s.now i i result }
-{
-    match s[i] {
-        0xC2..=0xDF => whole(s, i, 2, 0x80, 0xBF),
-        0xE0 => whole(s, i, 3, 0xA0, 0xBF),
-        0xE1..=0xEC => whole(s, i, 3, 0x80, 0xBF),
-        0xED => whole(s, i, 3, 0x80, 0x9F),
-        0xEE..=0xEF => whole(s, i, 3, 0x80, 0xBF),
-        0xF0 => whole(s, i, 4, 0x90, 0xBF),
-        0xF1..=0xF3 => whole(s, i, 4, 0x80, 0xBF),
-        0xF4 => whole(s, i, 4, 0x80, 0x8F),
-        _ => 0,
+    match s[0] {
+        0xC2..=0xDF => after_whole(s, 2, 0x80..=0xBF),
+        0xE0 => after_whole(s, 3, 0xA0..=0xBF),
+        0xE1..=0xEC => after_whole(s, 3, 0x80..=0xBF),
+        0xED => after_whole(s, 3, 0x80..=0x9F),
+        0xEE..=0xEF => after_whole(s, 3, 0x80..=0xBF),
+        0xF0 => after_whole(s, 4, 0x90..=0xBF),
+        0xF1..=0xF3 => after_whole(s, 4, 0x80..=0xBF),
+        0xF4 => after_whole(s, 4, 0x80..=0x8F),
+        _ => None,
     }
 }
 
-// n where the second of the n octets at i is from least to most and the others are tails, else 0.
-fn whole(s: &[u8], i: usize, n: usize, least: u8, most: u8) -> usize
-    requires { (i < length s.now) × (2 ≤ n) }
-    ensures { Judged (following n least most) s.now (i + 1) i result }
+// What follows the n octets that `s` begins with, where the second is one of `seconds` and the others are tails.
+fn after_whole(s: &[u8], n: usize, seconds: RangeInclusive<u8>) -> Option<&[u8]>
+    requires n_bound { 2 ≤ n }
+    requires fresh { range_inclusive_exhausted seconds ≡ false }
+    ensures { Judged (following n (range_inclusive_start seconds) (range_inclusive_end seconds)) (drop 1 s.now) s.now result }
 {
-    if s.len() - i < n {
-        return 0;
+    let (octets, rest) = s.split_at_checked(n)?;
+    if seconds.contains(&octets[1]) && are_tails(&octets[2..]) {
+        Some(rest)
+    } else {
+        None
     }
-    if !within(s[i + 1], least, most) {
-        return 0;
-    }
-    let mut k = 2;
-    while k < n {
-        if !within(s[i + k], 0x80, 0xBF) {
-            return 0;
-        }
-        k += 1;
-    }
-    n
 }
 
-fn within(b: u8, least: u8, most: u8) -> bool
-    ensures { result ≡ holds (from least most) b }
+fn are_tails(octets: &[u8]) -> bool
+    ensures { result ≡ list_all (λ b. holds tail b) octets.now }
 {
-    if b < least {
-        return false;
-    }
-    b <= most
+    octets.iter().all(|&b| is_tail(b))
+}
+
+fn is_tail(octet: u8) -> bool
+    ensures { result ≡ holds tail octet }
+{
+    (0x80..=0xBF).contains(&octet)
 }

@@ -2,185 +2,95 @@
 use crate::characters::AROUND;
 use crate::fields::Outcome;
 use crate::{characters, checksums, fields, rows, totals, writer};
-use cases::text::{Number, Spelled, before, decimal, hexadecimal, same, unsigned, word, words};
+use cases::text::{decimal, hexadecimal, split_once, unsigned, word, words};
 
 // The first word says what a case is about. A line that is no case agrees with nothing. Bytes are put into space.
 pub fn agrees(line: &[u8], space: &mut [u8]) -> bool {
-    let first = word(line, 0);
-    if same(first, b"put") {
-        return written(line, space);
-    }
-    if same(first, b"crc32c") {
-        return summed(line, space);
-    }
-    if same(first, b"crc32c-run") {
-        return run_summed(line, space);
-    }
-    if same(first, b"utf8") {
-        return judged(line, space);
-    }
-    if same(first, b"total") {
-        return totals::agrees(line);
-    }
-    read(line, first, space)
+    let agreement = match word(line, 0) {
+        b"put" => written(line, space),
+        b"crc32c" => summed(line, space),
+        b"crc32c-run" => run_summed(line, space),
+        b"utf8" => judged(line, space),
+        b"total" => totals::agrees(line),
+        first => read(line, first, space),
+    };
+    agreement.unwrap_or(false)
 }
 
 // put KIND VALUE HEX
-fn written(line: &[u8], space: &mut [u8]) -> bool {
+fn written(line: &[u8], space: &mut [u8]) -> Option<bool> {
     if words(line) != 4 {
-        return false;
+        return None;
     }
-    let Number::Is(n) = decimal(word(line, 2)) else {
-        return false;
-    };
-    let Spelled::Count(count) = hexadecimal(word(line, 3), space) else {
-        return false;
-    };
-    if space.len() < count {
-        return false;
-    }
-    writer::writes(word(line, 1), n, &space[..count])
+    let n = decimal(word(line, 2))?;
+    let expected = hexadecimal(word(line, 3), space)?;
+    writer::writes(word(line, 1), n, expected)
 }
 
 // crc32c HEX SUM
-fn summed(line: &[u8], space: &mut [u8]) -> bool {
+fn summed(line: &[u8], space: &mut [u8]) -> Option<bool> {
     if words(line) != 3 {
-        return false;
+        return None;
     }
-    let Number::Is(sum) = decimal(word(line, 2)) else {
-        return false;
-    };
-    let Spelled::Count(count) = hexadecimal(word(line, 1), space) else {
-        return false;
-    };
-    if space.len() < count {
-        return false;
-    }
-    checksums::sums_to(&space[..count], sum)
+    let sum = decimal(word(line, 2))?;
+    let bytes = hexadecimal(word(line, 1), space)?;
+    Some(checksums::sums_to(bytes, sum))
 }
 
 // crc32c-run LENGTH SEED SUM
-fn run_summed(line: &[u8], space: &mut [u8]) -> bool {
+fn run_summed(line: &[u8], space: &mut [u8]) -> Option<bool> {
     if words(line) != 4 {
-        return false;
+        return None;
     }
-    let Number::Is(length) = decimal(word(line, 1)) else {
-        return false;
-    };
-    let Number::Is(seed) = decimal(word(line, 2)) else {
-        return false;
-    };
-    let Number::Is(sum) = decimal(word(line, 3)) else {
-        return false;
-    };
-    if length.negative || seed.negative {
-        return false;
-    }
-    let length = length.distance;
-    let count = length as usize;
-    if space.len() < count {
-        return false;
-    }
-    checksums::run(seed.distance, &mut space[..count]);
-    checksums::sums_to(&space[..count], sum)
+    let length = unsigned(word(line, 1))?;
+    let seed = unsigned(word(line, 2))?;
+    let sum = decimal(word(line, 3))?;
+    let bytes = space.get_mut(..length)?;
+    checksums::run(seed, bytes);
+    Some(checksums::sums_to(bytes, sum))
 }
 
 // utf8 HEX VERDICT
-fn judged(line: &[u8], space: &mut [u8]) -> bool {
+fn judged(line: &[u8], space: &mut [u8]) -> Option<bool> {
     if words(line) != 3 {
-        return false;
+        return None;
     }
-    if space.len() < AROUND {
-        return false;
-    }
-    characters::fill_with_ascii(space);
-    let Spelled::Count(count) = hexadecimal(word(line, 1), &mut space[AROUND..]) else {
-        return false;
+    let verdict = match word(line, 2) {
+        b"1" => true,
+        b"0" => false,
+        _ => return None,
     };
-    let verdict = word(line, 2);
-    if same(verdict, b"1") {
-        return characters::judges(space, count, true);
-    }
-    same(verdict, b"0") && characters::judges(space, count, false)
+    space.fill(characters::ASCII);
+    let count = hexadecimal(word(line, 1), space.get_mut(AROUND..)?)?.len();
+    let text = space.get(..count + 2 * AROUND)?;
+    Some(characters::judges(text, verdict))
 }
 
 // KIND HEX .., where KIND may have @K after it
-fn read(line: &[u8], first: &[u8], space: &mut [u8]) -> bool {
-    let n = before(first, b'@');
-    let Spelled::Count(at) = place(&first[n..]) else {
-        return false;
+fn read(line: &[u8], first: &[u8], space: &mut [u8]) -> Option<bool> {
+    let (kind, at) = match split_once(first, b'@') {
+        Some((kind, place)) => (kind, unsigned(place)?),
+        None => (first, 0),
     };
-    let Spelled::Count(count) = hexadecimal(word(line, 1), space) else {
-        return false;
-    };
-    if space.len() < count {
-        return false;
+    let s = hexadecimal(word(line, 1), space)?;
+    match kind {
+        b"records" => rows::agree(s, at, line),
+        b"copy" => Some(at == 0 && writer::copies(s, line)?),
+        _ => Some(fields::read(kind, s, at)? == expected(line)?),
     }
-    answered(&first[..n], &space[..count], at, line)
-}
-
-fn answered(kind: &[u8], s: &[u8], at: usize, line: &[u8]) -> bool {
-    if same(kind, b"records") {
-        return rows::agree(s, at, line);
-    }
-    if same(kind, b"copy") {
-        return at == 0 && writer::copies(s, line);
-    }
-    fields::read(kind, s, at).same(expected(line))
-}
-
-// The suffix is empty or starts with @.
-fn place(suffix: &[u8]) -> Spelled {
-    if suffix.len() == 0 {
-        return Spelled::Count(0);
-    }
-    unsigned(&suffix[1..])
 }
 
 // KIND HEX NUMBER [..]
-fn expected(line: &[u8]) -> Outcome {
-    let n = words(line);
-    if n == 3 {
-        return refusal(line);
+fn expected(line: &[u8]) -> Option<Outcome> {
+    let number = word(line, 2);
+    match (words(line), number) {
+        (3, _) => Some(Outcome::Refused(decimal(number)?)),
+        (5, b"0") => Some(Outcome::Value(decimal(word(line, 3))?, decimal(word(line, 4))?)),
+        (6, b"0") => Some(Outcome::Span(
+            decimal(word(line, 3))?,
+            decimal(word(line, 4))?,
+            decimal(word(line, 5))?,
+        )),
+        _ => None,
     }
-    if !same(word(line, 2), b"0") {
-        return Outcome::Malformed;
-    }
-    if n == 5 {
-        return value(line);
-    }
-    if n == 6 {
-        return span(line);
-    }
-    Outcome::Malformed
-}
-
-fn refusal(line: &[u8]) -> Outcome {
-    let Number::Is(number) = decimal(word(line, 2)) else {
-        return Outcome::Malformed;
-    };
-    Outcome::Refused(number)
-}
-
-fn value(line: &[u8]) -> Outcome {
-    let Number::Is(n) = decimal(word(line, 3)) else {
-        return Outcome::Malformed;
-    };
-    let Number::Is(after) = decimal(word(line, 4)) else {
-        return Outcome::Malformed;
-    };
-    Outcome::Value(n, after)
-}
-
-fn span(line: &[u8]) -> Outcome {
-    let Number::Is(start) = decimal(word(line, 3)) else {
-        return Outcome::Malformed;
-    };
-    let Number::Is(len) = decimal(word(line, 4)) else {
-        return Outcome::Malformed;
-    };
-    let Number::Is(after) = decimal(word(line, 5)) else {
-        return Outcome::Malformed;
-    };
-    Outcome::Span(start, len, after)
 }

@@ -1,7 +1,7 @@
 // Records: what the library answers, and every number of both tables afterwards.
-use cases::tables::{HEADER_MARK, MOST, NO_ROOM, RECORD_MARK, holds, mark};
-use cases::text::{Spelled, after_bar, before, unsigned, word, words};
-use reading::{RecordsCheck, RecordsRead, check_records, read_records};
+use cases::tables::{NO_ROOM, Tables};
+use cases::text::{split_at_bar, unsigned, word, words};
+use reading::{RecordsError, RecordsFound, check_records, read_records};
 use records::RecordFault;
 
 // The place, how many records are read, the first header row, and how many numbers each table has.
@@ -15,7 +15,7 @@ struct Question {
 }
 
 // Document 01's number, the counts of records and headers, and the end: 0 where the number names none.
-#[derive(Clone, Copy)]
+#[derive(Clone, Copy, PartialEq, Eq)]
 struct Answer {
     number: usize,
     records: usize,
@@ -23,164 +23,85 @@ struct Answer {
     end: usize,
 }
 
-#[derive(Drop)]
-enum Asked {
-    For(Question),
-    Malformed,
-}
-
-#[derive(Drop)]
-enum Told {
-    Of(Answer),
-    Malformed,
-}
-
 // records HEX COUNT FIRST R H NUMBER [RECORDS HEADERS END[|ROWS|ROWS]]
-pub fn agree(s: &[u8], at: usize, line: &[u8]) -> bool {
-    let n = before(line, b'|');
-    let Asked::For(question) = asked_by(at, &line[..n]) else {
-        return false;
-    };
-    let Told::Of(answer) = told_by(&line[..n]) else {
-        return false;
-    };
-    let mut records = [0i64; MOST];
-    let mut headers = [0i64; MOST];
-    answered(
-        s,
-        question,
-        answer,
-        after_bar(line),
-        &mut records,
-        &mut headers,
-    )
+pub fn agree(s: &[u8], at: usize, line: &[u8]) -> Option<bool> {
+    let (line, rows) = split_at_bar(line);
+    let question = asked_by(at, line)?;
+    let answer = told_by(line)?;
+    answered(s, question, answer, rows)
 }
 
-fn asked_by(at: usize, line: &[u8]) -> Asked {
-    let Spelled::Count(count) = unsigned(word(line, 2)) else {
-        return Asked::Malformed;
-    };
-    let Spelled::Count(first_header_row) = unsigned(word(line, 3)) else {
-        return Asked::Malformed;
-    };
-    let Spelled::Count(records) = unsigned(word(line, 4)) else {
-        return Asked::Malformed;
-    };
-    let Spelled::Count(headers) = unsigned(word(line, 5)) else {
-        return Asked::Malformed;
-    };
-    Asked::For(Question {
+fn asked_by(at: usize, line: &[u8]) -> Option<Question> {
+    Some(Question {
         at,
-        count,
-        first_header_row,
-        records,
-        headers,
+        count: unsigned(word(line, 2))?,
+        first_header_row: unsigned(word(line, 3))?,
+        records: unsigned(word(line, 4))?,
+        headers: unsigned(word(line, 5))?,
     })
 }
 
-fn told_by(line: &[u8]) -> Told {
-    let Spelled::Count(number) = unsigned(word(line, 6)) else {
-        return Told::Malformed;
-    };
-    if words(line) == 7 {
-        return Told::Of(refusal(number));
+fn told_by(line: &[u8]) -> Option<Answer> {
+    let number = unsigned(word(line, 6))?;
+    match words(line) {
+        7 => Some(refusal(number)),
+        10 => Some(Answer {
+            number,
+            records: unsigned(word(line, 7))?,
+            headers: unsigned(word(line, 8))?,
+            end: unsigned(word(line, 9))?,
+        }),
+        _ => None,
     }
-    if words(line) != 10 {
-        return Told::Malformed;
-    }
-    let Spelled::Count(records) = unsigned(word(line, 7)) else {
-        return Told::Malformed;
-    };
-    let Spelled::Count(headers) = unsigned(word(line, 8)) else {
-        return Told::Malformed;
-    };
-    let Spelled::Count(end) = unsigned(word(line, 9)) else {
-        return Told::Malformed;
-    };
-    Told::Of(Answer {
-        number,
-        records,
-        headers,
-        end,
-    })
 }
 
 // The tables are marked, both functions are asked, and every number of the tables is looked at. On refusals and where
 // there is no room a case has no rows, so that all have to stand as they were.
-fn answered(
-    s: &[u8],
-    q: Question,
-    expected: Answer,
-    rows: &[u8],
-    records: &mut [i64],
-    headers: &mut [i64],
-) -> bool {
-    let room = q.records;
-    let header_room = q.headers;
-    if records.len() < room {
-        return false;
-    }
-    if headers.len() < header_room {
-        return false;
-    }
-    mark(records, RECORD_MARK);
-    mark(headers, HEADER_MARK);
+fn answered(s: &[u8], q: Question, expected: Answer, rows: &[u8]) -> Option<bool> {
+    let mut tables = Tables::marked();
     let check = checked(check_records(s, q.at, q.count));
     let read = read(read_records(
         s,
         q.at,
         q.count,
         q.first_header_row,
-        &mut records[..room],
-        &mut headers[..header_room],
+        tables.records.get_mut(..q.records)?,
+        tables.headers.get_mut(..q.headers)?,
     ));
-    let n = before(rows, b'|');
-    both_are(check, read, expected)
-        && holds(records, RECORD_MARK, 0, &rows[..n])
-        && holds(headers, HEADER_MARK, q.first_header_row, after_bar(rows))
+    Some(both_are(check, read, expected) && tables.hold(q.first_header_row, rows))
 }
 
-fn checked(r: RecordsCheck) -> Answer {
+fn checked(r: Result<RecordsFound, RecordFault>) -> Answer {
     match r {
-        RecordsCheck::Accepted {
-            records,
-            headers,
-            end,
-        } => Answer {
-            number: 0,
-            records,
-            headers,
-            end,
-        },
-        RecordsCheck::Refused(f) => refused(f),
+        Ok(found) => accepted(found),
+        Err(f) => refused(f),
     }
 }
 
-fn read(r: RecordsRead) -> Answer {
+fn read(r: Result<RecordsFound, RecordsError>) -> Answer {
     match r {
-        RecordsRead::Accepted {
-            records,
-            headers,
-            end,
-        } => Answer {
-            number: 0,
-            records,
-            headers,
-            end,
-        },
-        RecordsRead::NoRoom { records, headers } => Answer {
+        Ok(found) => accepted(found),
+        Err(RecordsError::NoRoom { records, headers }) => Answer {
             number: NO_ROOM,
             records,
             headers,
             end: 0,
         },
-        RecordsRead::Refused(f) => refused(f),
+        Err(RecordsError::Refused(f)) => refused(f),
+    }
+}
+
+fn accepted(found: RecordsFound) -> Answer {
+    Answer {
+        number: 0,
+        records: found.records,
+        headers: found.headers,
+        end: found.end,
     }
 }
 
 fn refused(f: RecordFault) -> Answer {
-    let number = f.number();
-    refusal(number as usize)
+    refusal(usize::from(f.number()))
 }
 
 fn refusal(number: usize) -> Answer {
@@ -195,20 +116,12 @@ fn refusal(number: usize) -> Answer {
 // The check has no table that could lack room, and a reading that lacks it names no end.
 fn both_are(check: Answer, read: Answer, expected: Answer) -> bool {
     if expected.number != NO_ROOM {
-        return check.same(expected) && read.same(expected);
+        return check == expected && read == expected;
     }
-    let mut accepted = expected;
-    accepted.number = 0;
-    let mut no_room = expected;
-    no_room.end = 0;
-    check.same(accepted) && read.same(no_room)
-}
-
-impl Answer {
-    fn same(self, other: Answer) -> bool {
-        self.number == other.number
-            && self.records == other.records
-            && self.headers == other.headers
-            && self.end == other.end
-    }
+    let accepted = Answer {
+        number: 0,
+        ..expected
+    };
+    let no_room = Answer { end: 0, ..expected };
+    check == accepted && read == no_room
 }

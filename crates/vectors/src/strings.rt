@@ -5,165 +5,121 @@
 // whole number stands there.
 use crate::fields;
 use crate::fields::Outcome;
-use cases::integer::Integer;
 use cases::tally::Tally;
+use std::mem;
+
+// A field runs past the body: document 01's number 8.
+const PAST_END: Outcome = Outcome::Refused(8);
+
+// What was found so far, and which strings were met.
+#[derive(Drop)]
+struct Strings<'a> {
+    tally: Tally,
+    met: &'a mut [bool],
+}
 
 pub fn one_byte() -> Tally {
-    let mut met = [0u8; 256];
-    one_byte_strings(&mut met)
+    let mut met = [false; 256];
+    let mut strings = Strings::new(&mut met);
+    strings.one_ended();
+    strings.one_not_ended();
+    strings.tally
 }
 
 pub fn two_bytes() -> Tally {
-    let mut met = [0u8; 65536];
-    two_byte_strings(&mut met)
+    let mut met = [false; 65536];
+    let mut strings = Strings::new(&mut met);
+    strings.ended_by_first();
+    strings.ended_by_second();
+    strings.not_ended();
+    strings.tally
 }
 
-fn one_byte_strings(met: &mut [u8]) -> Tally {
-    let t = one_ended(Tally::new(), met);
-    one_not_ended(t, met)
-}
-
-// k and -1 - k, for k below 64, are the numbers that seven bits hold.
-fn one_ended(t: Tally, met: &mut [u8]) -> Tally {
-    let mut t = t;
-    let mut k: u8 = 0;
-    while k < 64 {
-        t = one(t, 2 * k, read(Integer::from_u64(k as u64), 1), met);
-        t = one(
-            t,
-            2 * (k + 1) - 1,
-            read(Integer::below_zero(k as u64), 1),
+impl<'a> Strings<'a> {
+    fn new(met: &'a mut [bool]) -> Self {
+        Strings {
+            tally: Tally::default(),
             met,
-        );
-        k += 1;
+        }
     }
-    t
-}
 
-fn one_not_ended(t: Tally, met: &mut [u8]) -> Tally {
-    let mut t = t;
-    let mut k: u8 = 0;
-    while k < 128 {
-        t = one(t, 128 + k, past_end(), met);
-        k += 1;
+    // k and -1 - k, for k below 64, are the numbers that seven bits hold.
+    fn one_ended(&mut self) {
+        for k in 0..64u8 {
+            self.one(2 * k, Outcome::Value(i128::from(k), 1));
+            self.one(2 * (k + 1) - 1, Outcome::Value(-1 - i128::from(k), 1));
+        }
     }
-    t
-}
 
-fn two_byte_strings(met: &mut [u8]) -> Tally {
-    let t = ended_by_first(Tally::new(), met);
-    let t = ended_by_second(t, met);
-    not_ended(t, met)
-}
-
-// What stands after the number does not matter.
-fn ended_by_first(t: Tally, met: &mut [u8]) -> Tally {
-    let mut t = t;
-    let mut k: u8 = 0;
-    while k < 64 {
-        t = then_any(t, 2 * k, read(Integer::from_u64(k as u64), 1), met);
-        t = then_any(
-            t,
-            2 * (k + 1) - 1,
-            read(Integer::below_zero(k as u64), 1),
-            met,
-        );
-        k += 1;
+    fn one_not_ended(&mut self) {
+        for b in 128..=u8::MAX {
+            self.one(b, PAST_END);
+        }
     }
-    t
-}
 
-// k and -1 - k, for k below 8192, are the numbers that fourteen bits hold. Those that seven bits hold are read from two
-// bytes too: longer than needed.
-fn ended_by_second(t: Tally, met: &mut [u8]) -> Tally {
-    let mut t = t;
-    let mut k: u16 = 0;
-    while k < 8192 {
-        t = in_two(t, 2 * k, read(Integer::from_u64(k as u64), 2), met);
-        t = in_two(
-            t,
-            2 * (k + 1) - 1,
-            read(Integer::below_zero(k as u64), 2),
-            met,
-        );
-        k += 1;
+    // What stands after the number does not matter.
+    fn ended_by_first(&mut self) {
+        for k in 0..64u8 {
+            self.then_any(2 * k, Outcome::Value(i128::from(k), 1));
+            self.then_any(2 * (k + 1) - 1, Outcome::Value(-1 - i128::from(k), 1));
+        }
     }
-    t
-}
 
-fn not_ended(t: Tally, met: &mut [u8]) -> Tally {
-    let mut t = t;
-    let mut k: u8 = 0;
-    while k < 128 {
-        t = then_more(t, 128 + k, met);
-        k += 1;
+    // k and -1 - k, for k below 8192, are the numbers that fourteen bits hold. Those that seven bits hold are read from
+    // two bytes too: longer than needed.
+    fn ended_by_second(&mut self) {
+        for k in 0..8192u16 {
+            self.in_two(2 * k, Outcome::Value(i128::from(k), 2));
+            self.in_two(2 * (k + 1) - 1, Outcome::Value(-1 - i128::from(k), 2));
+        }
     }
-    t
-}
 
-fn then_any(t: Tally, first: u8, expected: Outcome, met: &mut [u8]) -> Tally {
-    let mut t = t;
-    let mut second: u16 = 0;
-    while second < 256 {
-        t = two(t, first, second as u8, expected, met);
-        second += 1;
+    fn not_ended(&mut self) {
+        for first in 128..=u8::MAX {
+            self.then_more(first);
+        }
     }
-    t
-}
 
-fn then_more(t: Tally, first: u8, met: &mut [u8]) -> Tally {
-    let mut t = t;
-    let mut k: u8 = 0;
-    while k < 128 {
-        t = two(t, first, 128 + k, past_end(), met);
-        k += 1;
+    fn then_any(&mut self, first: u8, expected: Outcome) {
+        for second in 0..=u8::MAX {
+            self.two(first, second, expected);
+        }
     }
-    t
-}
 
-fn in_two(t: Tally, code: u16, expected: Outcome, met: &mut [u8]) -> Tally {
-    two(
-        t,
-        (128 + code % 128) as u8,
-        (code / 128 % 128) as u8,
-        expected,
-        met,
-    )
-}
-
-fn one(t: Tally, b: u8, expected: Outcome, met: &mut [u8]) -> Tally {
-    let is_first = meet(b as usize, met);
-    both_widths(t, &[b], expected, is_first)
-}
-
-fn two(t: Tally, first: u8, second: u8, expected: Outcome, met: &mut [u8]) -> Tally {
-    let is_first = meet((first as usize) * 256 + second as usize, met);
-    both_widths(t, &[first, second], expected, is_first)
-}
-
-// Whether a string is met for the first time. One that is met again differs, so that where none differs the count of
-// cases tells that all strings were met.
-fn meet(string: usize, met: &mut [u8]) -> bool {
-    if met.len() <= string {
-        return false;
+    fn then_more(&mut self, first: u8) {
+        for second in 128..=u8::MAX {
+            self.two(first, second, PAST_END);
+        }
     }
-    if met[string] != 0 {
-        return false;
+
+    fn in_two(&mut self, code: u16, expected: Outcome) {
+        self.two((128 + code % 128) as u8, (code / 128 % 128) as u8, expected);
     }
-    met[string] = 1;
-    true
-}
 
-fn both_widths(t: Tally, s: &[u8], expected: Outcome, is_first: bool) -> Tally {
-    t.with(is_first && fields::varint(s, 0).same(expected))
-        .with(is_first && fields::varlong(s, 0).same(expected))
-}
+    fn one(&mut self, b: u8, expected: Outcome) {
+        let is_first = self.meets(usize::from(b));
+        self.both_widths(&[b], expected, is_first);
+    }
 
-fn read(n: Integer, after: u64) -> Outcome {
-    Outcome::Value(n, Integer::from_u64(after))
-}
+    fn two(&mut self, first: u8, second: u8, expected: Outcome) {
+        let string = [first, second];
+        let is_first = self.meets(usize::from(u16::from_be_bytes(string)));
+        self.both_widths(&string, expected, is_first);
+    }
 
-// A field runs past the body: document 01's number 8.
-fn past_end() -> Outcome {
-    Outcome::Refused(Integer::from_u64(8))
+    // Whether a string is met for the first time. One that is met again differs, so that where none differs the count
+    // of cases tells that all strings were met.
+    fn meets(&mut self, string: usize) -> bool {
+        match self.met.get_mut(string) {
+            Some(met) => !mem::replace(met, true),
+            None => false,
+        }
+    }
+
+    fn both_widths(&mut self, s: &[u8], expected: Outcome, is_first: bool) {
+        self.tally = self
+            .tally
+            .with(is_first && fields::varint(s, 0) == expected)
+            .with(is_first && fields::varlong(s, 0) == expected);
+    }
 }

@@ -1,19 +1,13 @@
 // The size of a batch, by its batchLength.
 use batches::RecordBatch;
-use cases::integer::Integer;
-use cases::text::{Number, decimal, word, words};
+use cases::text::{decimal, word, words};
 
 // total LENGTH TOTAL
-pub fn agrees(line: &[u8]) -> bool {
+pub fn agrees(line: &[u8]) -> Option<bool> {
     if words(line) != 3 {
-        return false;
+        return None;
     }
-    let Number::Is(length) = decimal(word(line, 1)) else {
-        return false;
-    };
-    let Number::Is(total) = decimal(word(line, 2)) else {
-        return false;
-    };
-    let size = RecordBatch::total_size(length.to_i32());
-    length.in_signed(0x8000_0000) && Integer::from_i64(size).same(total)
+    let length = i32::try_from(decimal(word(line, 1))?).ok()?;
+    let total = decimal(word(line, 2))?;
+    Some(i128::from(RecordBatch::total_size(length)) == total)
 }

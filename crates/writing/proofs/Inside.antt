@@ -1,9 +1,8 @@
 -- What rows that are accepted ask for lies in the source, and headers in their table. Assumes nothing.
 use Prim.Native.Nat.{ℕ, zero, suc, ◌+◌, ◌/◌, ◌≤◌, ◌<◌}
-use mathlib.Core.Path.{◌≡◌, sym, ap, ◌∙◌, subst}
+use mathlib.Core.Path.{◌≡◌, sym, subst}
 use mathlib.Core.Option.{Option, none, some}
 use mathlib.Core.List.{List}
-use native.Mathlib.Omega.{arith}
 use lib.Dec.{eqb}
 use lib.IntN.{ℤ, pos, negsuc}
 use lib.ListN.{length}
@@ -17,9 +16,8 @@ use Rattle.records.specs.Rows.{cell, Tables}
 use Rattle.records.specs.Statements.{Each}
 use Rattle.sizes.specs.Inside.{HeaderInside, RecordInside}
 use Rattle.asking.specs.declared.AskedHeader.{AskedHeader}
-use Rattle.asking.specs.declared.HeaderAsked.{HeaderAsked}
 use Rattle.asking.specs.Asked.{asked_bytes, asked_nullable, asked_count, header_asked, header_row_asked, deltas_fit, head_asked, RowPlace, record_asked}
-use Rattle.asking.specs.Answers.{header_of, view_header}
+use Rattle.asking.specs.Answers.{header_of}
 use Rattle.asking.proofs.Accepted.{bytes_inside, header_accepted, count_room, next_is}
 use Rattle.asking.proofs.There.{header_there}
 
@@ -28,12 +26,9 @@ use Rattle.asking.proofs.There.{header_there}
 asked_inside : (t : List ℤ) (s : List ℕ) (row : ℕ) (h : HeaderSpans) (q : ℕ) → header_asked t s row ≡ ok h q → HeaderInside s h
 asked_inside t s row h q e = let (key, value) = header_accepted t s row h q e in record { key = key; value = value }
 
--- a row that lies before the end of others that the table has
-pub header_inside : (t : List ℤ) (s : List ℕ) (row k end : ℕ) → row + k ≡ end → end ≤ length t / 4 → 0 < k → (r : HeaderAsked) (h : AskedHeader)
-    → view_header row r ≡ header_row_asked t s row → r ≡ HeaderAsked.Got h → HeaderInside s (header_of h)
-header_inside t s row k end within there left r h e f =
-    let asked = header_there t s row (omega arith) _ e in
-    asked_inside t s row (header_of h) (row + 1) (sym asked ∙ ap (view_header row) f)
+pub header_inside : (t : List ℤ) (s : List ℕ) (row : ℕ) → row < length t / 4 → (h : AskedHeader) → ok (header_of h) (row + 1) ≡ header_row_asked t s row
+    → HeaderInside s (header_of h)
+header_inside t s row there h e = asked_inside t s row (header_of h) (row + 1) (sym (header_there t s row there _ e))
 
 -- ---- a record's row
 

@@ -1,3 +1,4 @@
+mod Exits
 mod Fields
 mod Inside
 mod Lengths

@@ -16,16 +16,12 @@ use Rattle.records.specs.Rows.{Tables}
 use Rattle.records.specs.Placed.{shown_header}
 use Rattle.records.specs.Written.{written_header, written_headers}
 use Rattle.sizes.specs.Sizes.{header_size, headers_size, record_size, records_size, cap, capped}
-use Rattle.asking.specs.declared.WriteFault.{WriteFault}
-use Rattle.asking.specs.declared.HeaderAsked.{HeaderAsked}
 use Rattle.asking.specs.declared.AskedHeader.{AskedHeader}
 use Rattle.asking.specs.Asked.{header_asked, header_row_asked, RowPlace, row_place, record_asked}
-use Rattle.asking.specs.Answers.{write_number_of, view_header, header_of}
+use Rattle.asking.specs.Answers.{header_of}
 use Rattle.asking.proofs.There.{header_there}
-use Rattle.writing.specs.declared.RowSized.{RowSized}
-use Rattle.writing.specs.declared.RowPut.{RowPut}
-use Rattle.writing.specs.Sized.{forget, view_row_sized}
-use Rattle.writing.specs.Put.{capped_record, capped_records, view_row_put}
+use Rattle.writing.specs.Sized.{forget}
+use Rattle.writing.specs.Put.{capped_record, capped_records}
 
 -- ---- any walk: f reads a row, g puts a list of what is still to come onto what there is
 
@@ -34,9 +30,11 @@ module _ {P A S R : Type 0} (f : P → Step P A) (g : S → List A → R) where
   rest now k at = map_step (g now) (times f k at)
 
   module _ (now : S) (k : ℕ) (at : P) (whole : Step P R) (inv : rest now k at ≡ whole) where
-    pub turn : (next : S) (a : A) (q : P) → 0 < k → f at ≡ ok a q → ((xs : List A) → g next xs ≡ g now (a ∷ xs)) → rest next (k - 1) q ≡ whole
-    turn next a q some e h =
-        (λ i. map_step (λ xs. h xs i) (times f (k - 1) q)) ∙ sym (times_again f (g now) k at some e) ∙ inv
+    -- so many are left after it
+    pub turn : (left : ℕ) (next : S) (a : A) (q : P) → k ≡ left + 1 → f at ≡ ok a q → ((xs : List A) → g next xs ≡ g now (a ∷ xs)) → rest next left q ≡ whole
+    turn left next a q some e h =
+        let one : left ≡ k - 1 = omega arith in
+        rw one ((λ i. map_step (λ xs. h xs i) (times f (k - 1) q)) ∙ sym (times_again f (g now) k at (omega arith) e) ∙ inv)
 
     pub stop : {n : ℕ} → 0 < k → f at ≡ no n → no n ≡ whole
     stop some e = sym (times_stop f (g now) k at some e) ∙ inv
@@ -54,26 +52,29 @@ module _ (t : List ℤ) (s : List ℕ) where
   headers_on p hs = emit (written_headers (map (shown_header s) hs)) p
 
   module _ {S R : Type 0} (g : S → List HeaderSpans → R) (now : S) (k row : ℕ) (whole : Step ℕ R)
-      (inv : rest (header_asked t s) g now k row ≡ whole) (some : 0 < k) (next_row : ℕ) (within : row + k ≡ next_row)
-      (there : next_row ≤ length t / 4) (r : HeaderAsked) (e : view_header row r ≡ header_row_asked t s row) where
-    asked : view_header row r ≡ header_asked t s row
-    asked = header_there t s row (omega arith) _ e
+      (inv : rest (header_asked t s) g now k row ≡ whole) (there : row < length t / 4) where
+    header_turn : (left : ℕ) → k ≡ left + 1 → (h : AskedHeader) → ok (header_of h) (row + 1) ≡ header_row_asked t s row → (next : S)
+        → ((hs : List HeaderSpans) → g next hs ≡ g now (header_of h ∷ hs)) → rest (header_asked t s) g next left (row + 1) ≡ whole
+    header_turn left some h e next same =
+        turn (header_asked t s) g now k row whole inv left next (header_of h) (row + 1) some (sym (header_there t s row there _ e)) same
 
-    header_turn : (h : AskedHeader) → r ≡ HeaderAsked.Got h → (next : S) → ((hs : List HeaderSpans) → g next hs ≡ g now (header_of h ∷ hs))
-        → rest (header_asked t s) g next (k - 1) (row + 1) ≡ whole
-    header_turn h f next same =
-        turn (header_asked t s) g now k row whole inv next (header_of h) (row + 1) some (sym asked ∙ ap (view_header row) f) same
+    header_stop : (n : ℕ) → 0 < k → no n ≡ header_row_asked t s row → no n ≡ whole
+    header_stop n some e = stop (header_asked t s) g now k row whole inv some (sym (header_there t s row there _ e))
 
-    pub header_stop : (f : WriteFault) → r ≡ HeaderAsked.Refused f → no (write_number_of f) ≡ whole
-    header_stop f h = stop (header_asked t s) g now k row whole inv some (sym asked ∙ ap (view_header row) h)
+  pub sizes_stop : (sum k row : ℕ) (whole : Step ℕ ℕ) → rest (header_asked t s) sizes_on sum k row ≡ whole → row < length t / 4 → (n : ℕ)
+      → 0 < k → no n ≡ header_row_asked t s row → no n ≡ whole
+  sizes_stop sum k row whole inv there n some e = header_stop sizes_on sum k row whole inv there n some e
 
-  pub sizes_turn : (sum k row : ℕ) (whole : Step ℕ ℕ) (r : HeaderAsked) (h : AskedHeader) (n next end : ℕ)
-      → rest (header_asked t s) sizes_on sum k row ≡ whole → 0 < k → row + k ≡ end → end ≤ length t / 4 → view_header row r ≡ header_row_asked t s row
-      → r ≡ HeaderAsked.Got h
-      → n ≡ capped (header_size (header_of h)) → next ≡ min (sum + n) cap → rest (header_asked t s) sizes_on next (k - 1) (row + 1) ≡ whole
+  pub headers_stop : (p : Pen) (k row : ℕ) (whole : Step ℕ Pen) → rest (header_asked t s) headers_on p k row ≡ whole → row < length t / 4 → (n : ℕ)
+      → 0 < k → no n ≡ header_row_asked t s row → no n ≡ whole
+  headers_stop p k row whole inv there n some e = header_stop headers_on p k row whole inv there n some e
+
+  pub sizes_turn : (sum k row : ℕ) (whole : Step ℕ ℕ) → rest (header_asked t s) sizes_on sum k row ≡ whole → row < length t / 4 → (left : ℕ)
+      → k ≡ left + 1 → (h : AskedHeader) → ok (header_of h) (row + 1) ≡ header_row_asked t s row → (n next : ℕ)
+      → n ≡ capped (header_size (header_of h)) → next ≡ min (sum + n) cap → rest (header_asked t s) sizes_on next left (row + 1) ≡ whole
   unfolding headers_size
-  sizes_turn sum k row whole r h n next end inv some within there e f size sums =
-      header_turn sizes_on sum k row whole inv some end within there r e h f next (λ hs. omega (arith, size, sums))
+  sizes_turn sum k row whole inv there left some h e n next size sums =
+      header_turn sizes_on sum k row whole inv there left some h e next (λ hs. omega (arith, size, sums))
 
   pub sizes_end : (sum k row next : ℕ) (whole : Step ℕ ℕ) → rest (header_asked t s) sizes_on sum k row ≡ whole → k ≡ 0 → sum ≤ cap
       → row ≡ next → ok sum next ≡ whole
@@ -87,13 +88,12 @@ module _ (t : List ℤ) (s : List ℕ) where
       at' : next ≡ row
       at' = sym at
 
-  pub headers_turn : (p : Pen) (k row : ℕ) (whole : Step ℕ Pen) (r : HeaderAsked) (h : AskedHeader) (q : Pen) (end : ℕ)
-      → rest (header_asked t s) headers_on p k row ≡ whole → 0 < k → row + k ≡ end → end ≤ length t / 4 → view_header row r ≡ header_row_asked t s row
-      → r ≡ HeaderAsked.Got h
-      → q ≡ emit (written_header (shown_header s (header_of h))) p → rest (header_asked t s) headers_on q (k - 1) (row + 1) ≡ whole
+  pub headers_turn : (p : Pen) (k row : ℕ) (whole : Step ℕ Pen) → rest (header_asked t s) headers_on p k row ≡ whole → row < length t / 4 → (left : ℕ)
+      → k ≡ left + 1 → (h : AskedHeader) → ok (header_of h) (row + 1) ≡ header_row_asked t s row → (q : Pen)
+      → q ≡ emit (written_header (shown_header s (header_of h))) p → rest (header_asked t s) headers_on q left (row + 1) ≡ whole
   unfolding written_headers
-  headers_turn p k row whole r h q end inv some within there e f put =
-      header_turn headers_on p k row whole inv some end within there r e h f q
+  headers_turn p k row whole inv there left some h e q put =
+      header_turn headers_on p k row whole inv there left some h e q
       (λ hs. ap (emit (written_headers (map (shown_header s) hs))) put ∙ emit_emit (written_header (shown_header s (header_of h))) (written_headers (map (shown_header s) hs)) p)
 
   pub headers_end : (at : ℕ) (out : List ℕ) (k row next : ℕ) (whole : Step ℕ Pen) → rest (header_asked t s) headers_on (pen at out) k row ≡ whole
@@ -116,28 +116,27 @@ module _ (t : Tables) (s : List ℕ) where
   record_sizes_start k at = λ i. map_step (λ rs. capped (zero-add (records_size rs) i)) (times (record_asked t s) k at)
 
   module _ (row first : ℕ) where
-    module _ (r : RowSized) (e : view_row_sized row r ≡ map_step (λ x. capped (record_size x)) (record_asked t s (row_place row first))) where
-      pub record_size_small : (n first' : ℕ) → r ≡ RowSized.Size n first' → n ≤ cap
-      record_size_small n first' f =
-          let (x, _, size) = map_ok (λ x. capped (record_size x)) (record_asked t s (row_place row first)) (sym e ∙ ap (view_row_sized row) f) in
+    module _ (n first' : ℕ) (e : ok n (row_place (row + 1) first') ≡ map_step (λ x. capped (record_size x)) (record_asked t s (row_place row first))) where
+      pub record_size_small : n ≤ cap
+      record_size_small =
+          let (x, _, size) = map_ok (λ x. capped (record_size x)) (record_asked t s (row_place row first)) (sym e) in
           omega (arith, size)
 
-      pub record_sizes_turn : (sum k : ℕ) (whole : Step RowPlace ℕ) (n first' next : ℕ)
-          → rest (record_asked t s) record_sizes_on sum k (row_place row first) ≡ whole → 0 < k → r ≡ RowSized.Size n first'
-          → next ≡ min (sum + n) cap → rest (record_asked t s) record_sizes_on next (k - 1) (row_place (row + 1) first') ≡ whole
+      pub record_sizes_turn : (sum k : ℕ) (whole : Step RowPlace ℕ) → rest (record_asked t s) record_sizes_on sum k (row_place row first) ≡ whole
+          → (left : ℕ) → k ≡ left + 1 → (next : ℕ) → next ≡ min (sum + n) cap
+          → rest (record_asked t s) record_sizes_on next left (row_place (row + 1) first') ≡ whole
       unfolding records_size
-      record_sizes_turn sum k whole n first' next inv some f sums =
-          let (x, is, size) = map_ok (λ x. capped (record_size x)) (record_asked t s (row_place row first)) (sym e ∙ ap (view_row_sized row) f) in
-          turn (record_asked t s) record_sizes_on sum k (row_place row first) whole inv next x (row_place (row + 1) first') some is
+      record_sizes_turn sum k whole inv left some next sums =
+          let (x, is, size) = map_ok (λ x. capped (record_size x)) (record_asked t s (row_place row first)) (sym e) in
+          turn (record_asked t s) record_sizes_on sum k (row_place row first) whole inv left next x (row_place (row + 1) first') some is
           (λ rs. omega (arith, size, sums))
 
-      pub record_sizes_stop : (sum k : ℕ) (whole : Step RowPlace ℕ) (f : WriteFault)
-          → rest (record_asked t s) record_sizes_on sum k (row_place row first) ≡ whole → 0 < k → r ≡ RowSized.Refused f
-          → no (write_number_of f) ≡ forget whole
-      record_sizes_stop sum k whole f inv some h =
-          ap forget
-          (stop (record_asked t s) record_sizes_on sum k (row_place row first) whole inv some
-          (map_no (λ x. capped (record_size x)) (record_asked t s (row_place row first)) (sym e ∙ ap (view_row_sized row) h)))
+    pub record_sizes_stop : (n : ℕ) → no n ≡ map_step (λ x. capped (record_size x)) (record_asked t s (row_place row first)) → (sum k : ℕ)
+        (whole : Step RowPlace ℕ) → rest (record_asked t s) record_sizes_on sum k (row_place row first) ≡ whole → 0 < k → no n ≡ forget whole
+    record_sizes_stop n e sum k whole inv some =
+        ap forget
+        (stop (record_asked t s) record_sizes_on sum k (row_place row first) whole inv some
+        (map_no (λ x. capped (record_size x)) (record_asked t s (row_place row first)) (sym e)))
 
     pub record_sizes_end : (sum k : ℕ) (whole : Step RowPlace ℕ) → rest (record_asked t s) record_sizes_on sum k (row_place row first) ≡ whole
         → k ≡ 0 → sum ≤ cap → ok sum 0 ≡ forget whole
@@ -148,22 +147,21 @@ module _ (t : Tables) (s : List ℕ) where
         same : sum ≡ capped (sum + 0)
         same = omega arith
 
-    module _ (r : RowPut) (p : Pen) (out : List ℕ)
-        (e : view_row_put row r out ≡ map_step (λ x. emit (capped_record s x) p) (record_asked t s (row_place row first))) where
-      pub records_turn : (k : ℕ) (whole : Step RowPlace Pen) (at first' : ℕ) → rest (record_asked t s) records_on p k (row_place row first) ≡ whole
-          → 0 < k → r ≡ RowPut.To at first' → rest (record_asked t s) records_on (pen at out) (k - 1) (row_place (row + 1) first') ≡ whole
-      unfolding capped_records
-      records_turn k whole at first' inv some f =
-          let (x, is, put) = map_ok (λ x. emit (capped_record s x) p) (record_asked t s (row_place row first)) (sym e ∙ ap (λ (r : RowPut). view_row_put row r out) f) in
-          turn (record_asked t s) records_on p k (row_place row first) whole inv (pen at out) x (row_place (row + 1) first') some is
-          (λ rs. ap (emit (capped_records s rs)) (sym put) ∙ emit_emit (capped_record s x) (capped_records s rs) p)
+    pub records_turn : (p q : Pen) (first' : ℕ) → ok q (row_place (row + 1) first') ≡ map_step (λ x. emit (capped_record s x) p) (record_asked t s (row_place row first))
+        → (k : ℕ) (whole : Step RowPlace Pen) → rest (record_asked t s) records_on p k (row_place row first) ≡ whole → (left : ℕ) → k ≡ left + 1
+        → rest (record_asked t s) records_on q left (row_place (row + 1) first') ≡ whole
+    unfolding capped_records
+    records_turn p q first' e k whole inv left some =
+        let (x, is, put) = map_ok (λ x. emit (capped_record s x) p) (record_asked t s (row_place row first)) (sym e) in
+        turn (record_asked t s) records_on p k (row_place row first) whole inv left q x (row_place (row + 1) first') some is
+        (λ rs. ap (emit (capped_records s rs)) (sym put) ∙ emit_emit (capped_record s x) (capped_records s rs) p)
 
-      pub records_stop : (k : ℕ) (whole : Step RowPlace Pen) (f : WriteFault) → rest (record_asked t s) records_on p k (row_place row first) ≡ whole
-          → 0 < k → r ≡ RowPut.Refused f → no (write_number_of f) ≡ forget whole
-      records_stop k whole f inv some h =
-          ap forget
-          (stop (record_asked t s) records_on p k (row_place row first) whole inv some
-          (map_no (λ x. emit (capped_record s x) p) (record_asked t s (row_place row first)) (sym e ∙ ap (λ (r : RowPut). view_row_put row r out) h)))
+    pub records_stop : (n : ℕ) (p : Pen) → no n ≡ map_step (λ x. emit (capped_record s x) p) (record_asked t s (row_place row first)) → (k : ℕ)
+        (whole : Step RowPlace Pen) → rest (record_asked t s) records_on p k (row_place row first) ≡ whole → 0 < k → no n ≡ forget whole
+    records_stop n p e k whole inv some =
+        ap forget
+        (stop (record_asked t s) records_on p k (row_place row first) whole inv some
+        (map_no (λ x. emit (capped_record s x) p) (record_asked t s (row_place row first)) (sym e)))
 
     pub records_end : (at : ℕ) (out : List ℕ) (k : ℕ) (whole : Step RowPlace Pen)
         → rest (record_asked t s) records_on (pen at out) k (row_place row first) ≡ whole → k ≡ 0 → ok (pen at out) 0 ≡ forget whole

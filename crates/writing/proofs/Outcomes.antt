@@ -8,10 +8,10 @@ use native.Mathlib.Omega.{arith}
 use borrow.Author.Tests.{leb-true}
 use lib.Dec.{leb}
 use lib.ListN.{length, length-append, length-take, length-drop}
+use Rattle.std.proofs.Common.{Ok}
 use Rattle.numbers.specs.Pick.{pick}
 use Rattle.asking.specs.declared.WriteFault.{WriteFault}
 use Rattle.asking.specs.Answers.{write_number_of}
-use Rattle.writing.specs.declared.Written.{Written}
 use Rattle.writing.specs.Answers.{Answer, writes, refuses, view_written, Given, given, refused, over, answer_due, output_due}
 use Rattle.writing.specs.Promises.{WriteOutcome, WriteBy}
 
@@ -77,5 +77,5 @@ due : (g : Given) (out : List ℕ) (n : ℕ) → writes n ≡ answer_due 0 out g
 due (given bs) out n e = within_by (leb (0 + length bs) (length out)) bs out n refl e
 due (refused m) out n e = omega (arith, lengths e)
 
-pub within : (g : Given) (out : List ℕ) (o : WriteOutcome) (n : ℕ) → WriteBy g 0 out o → o.result ≡ Written.Bytes n → n ≤ length out
+pub within : (g : Given) (out : List ℕ) (o : WriteOutcome) (n : ℕ) → WriteBy g 0 out o → o.result ≡ Ok n → n ≤ length out
 within g out o n w e = due g out n (ap view_written (sym e) ∙ w.answer)

@@ -9,17 +9,19 @@ use lib.Seq.{take-append_seam, length-take-le}
 use mir.Syntax.{w32, w64}
 use mir.Val.{SFits, to_z, of_z}
 use mir.ValLaws.{to_z_pos, to_z-of_z}
+use Rattle.std.proofs.Common as std
+use Rattle.std.proofs.Common.{Some, None}
 use Rattle.numbers.specs.declared.Encoded.{Encoded}
 use Rattle.numbers.specs.Format.{shortest}
 use Rattle.numbers.specs.Answers.{in_ten}
 use Rattle.numbers.specs.Pen.{Pen, pen, emit}
 use Rattle.numbers.specs.Promises.{PutPromise}
 use Rattle.numbers.proofs.Pens.{put_emits, emit_emit}
+use Rattle.numbers.proofs.Signs.{widen_back}
 use Rattle.primitives.specs.declared.Span.{Span as Declared}
 use Rattle.primitives.specs.Reading.{bytes_of, shown}
 use Rattle.records.specs.Inside.{NullableInside}
 use Rattle.records.specs.Written.{written_bytes, written_nullable}
-use Rattle.asking.specs.declared.Shown.{Shown}
 use Rattle.asking.specs.Answers.{span_of}
 
 -- ---- numbers
@@ -65,24 +67,24 @@ span_put s start len p out at next output inside e h =
     two (shortest (pos len)) bytes p (pen at out) (pen next output) e put
     ∙ ap (λ (k : ℕ). emit (shortest (pos k) ++ bytes) p) (sym long)
 
-pub null_put : (s : List ℕ) (x : Shown) (p q : Pen) → x ≡ Shown.Null → q ≡ emit (shortest (negsuc 0)) p
+pub null_put : (s : List ℕ) (x : std.Option Declared) (p q : Pen) → x ≡ None → q ≡ emit (shortest (negsuc 0)) p
     → q ≡ emit (written_nullable (shown s (span_of x))) p
 null_put s x p q e f = rw e f
 
-pub shown_put : (s : List ℕ) (x : Shown) (bytes : Declared) (p q : Pen) → x ≡ Shown.Bytes bytes
+pub shown_put : (s : List ℕ) (x : std.Option Declared) (bytes : Declared) (p q : Pen) → x ≡ Some bytes
     → q ≡ emit (written_bytes (bytes_of s (record { start = bytes.start; len = bytes.len }))) p
     → q ≡ emit (written_nullable (shown s (span_of x))) p
 shown_put s x bytes p q e f = rw e f
 
-pub shown_inside : (s : List ℕ) (x : Shown) (bytes : Declared) → NullableInside s (span_of x) → x ≡ Shown.Bytes bytes
+pub shown_inside : (s : List ℕ) (x : std.Option Declared) (bytes : Declared) → NullableInside s (span_of x) → x ≡ Some bytes
     → bytes.start + bytes.len ≤ length s
 shown_inside s x bytes h e = rw e at h
 
 pub start_put : (size : ℕ) (t o : ℤ) → SFits w64 t → SFits w32 o → (p q r s u : Pen)
     → q ≡ emit (shortest (pos size)) p → r ≡ emit (0 ∷ []) q
-    → s ≡ emit (shortest (to_z w64 (of_z w64 t))) r → u ≡ emit (shortest (to_z w32 (of_z w32 o))) s
+    → s ≡ emit (shortest (to_z w64 (of_z w64 t))) r → u ≡ emit (shortest (to_z w64 (of_z w64 (to_z w32 (of_z w32 o))))) s
     → u ≡ emit (shortest (pos size) ++ ((0 ∷ []) ++ (shortest t ++ shortest o))) p
 start_put size t o fits fits' p q r s u e h f g =
     four (shortest (pos size)) (0 ∷ []) (shortest t) (shortest o) p q r s u e h
     (f ∙ ap (λ (z : ℤ). emit (shortest z) r) (to_z-of_z w64 t fits))
-    (g ∙ ap (λ (z : ℤ). emit (shortest z) s) (to_z-of_z w32 o fits'))
+    (g ∙ ap (λ (z : ℤ). emit (shortest z) s) (widen_back w32 w64 o (omega arith) fits'))

@@ -1,5 +1,5 @@
 -- Numbers of one byte, and of more: how they are told apart, and what is put of them. Assumes nothing.
-use Prim.Native.Nat.{ℕ, ◌+◌, ◌*◌, ◌/◌, ◌≤◌, ◌<◌}
+use Prim.Native.Nat.{ℕ, ◌+◌, ◌-◌, ◌*◌, ◌/◌, ◌≤◌, ◌<◌}
 use mathlib.Core.Path.{◌≡◌, refl, sym, ap, ◌∙◌, subst}
 use mathlib.Core.Bool.{Bool, true, false}
 use mathlib.Core.List.{List, [], ◌∷◌}
@@ -15,6 +15,7 @@ use lib.Signed.{lt_z}
 use mir.Syntax.{w64}
 use mir.Val.{SFits, to_z, of_z}
 use mir.ValLaws.{to_z-of_z}
+use Rattle.std.proofs.lemmas.Slice.{between_is}
 use Rattle.numbers.specs.declared.Encoded.{Encoded}
 use Rattle.numbers.specs.Answers.{in_ten}
 use Rattle.numbers.specs.Format.{zigzag, shortest}
@@ -95,28 +96,26 @@ long_is z e is h =
       taken = encoded_taken z e is;
     }
 
--- one byte of those in use
-pub long_turn : (e : Encoded) (i : ℕ) (p q : Pen) → i < e.len → e.len ≤ length e.bytes → q ≡ emit (get_or e.bytes i 0 ∷ []) p
-    → emit (drop (i + 1) (take e.len e.bytes)) q ≡ emit (drop i (take e.len e.bytes)) p
-long_turn e i p q h inside f =
-    let used = take e.len e.bytes in
-    let size : length used ≡ e.len = length-take-le e.len e.bytes inside in
-    let here : get_or used i 0 ≡ get_or e.bytes i 0 = get_or-take e.len e.bytes i 0 h in
-    ap (emit (drop (i + 1) used)) f ∙ emit_emit (get_or e.bytes i 0 ∷ []) (drop (i + 1) used) p
-    ∙ ap (λ (l : List ℕ). emit l p) (rw (add-one i, drop-cons used i 0 (omega arith), here) refl)
+-- one byte of several
+pub long_turn : (bs : List ℕ) (i : ℕ) (p q : Pen) → i < length bs → q ≡ emit (get_or bs i 0 ∷ []) p → emit (drop (i + 1) bs) q ≡ emit (drop i bs) p
+long_turn bs i p q h f =
+    ap (emit (drop (i + 1) bs)) f ∙ emit_emit (get_or bs i 0 ∷ []) (drop (i + 1) bs) p
+    ∙ ap (λ (l : List ℕ). emit l p) (rw (add-one i, drop-cons bs i 0 h) refl)
 
 module _ (z : ℤ) (e : Encoded) (l : Long z e) (p₀ p₁ p₂ : Pen) (first : p₁ ≡ emit (get_or e.bytes 0 0 ∷ []) p₀)
     (second : p₂ ≡ emit (get_or e.bytes 1 0 ∷ []) p₁) where
   -- all of them, after the first two
-  pub long_done : (i at : ℕ) (out : List ℕ) → e.len ≤ i → emit (drop i (take e.len e.bytes)) (pen at out) ≡ emit (drop 2 (take e.len e.bytes)) p₂
-      → pen at out ≡ emit (shortest z) p₀
-  long_done i at out h f =
+  pub long_done : (bs : List ℕ) → bs ≡ take (e.len - 2) (drop 2 e.bytes) → (i at : ℕ) (out : List ℕ) → length bs ≤ i
+      → emit (drop i bs) (pen at out) ≡ emit bs p₂ → pen at out ≡ emit (shortest z) p₀
+  long_done bs is i at out h f =
       let used = take e.len e.bytes in
       let size : length used ≡ e.len = length-take-le e.len e.bytes l.inside in
-      let past : length used ≤ i = omega arith in
-      let none : drop i used ≡ [] = drop_of_length-le used past in
-      sym (ap (λ (bs : List ℕ). emit bs (pen at out)) none ∙ emit_nothing at out)
+      let two = l.two in
+      let here : (j : ℕ) → j < 2 → get_or used j 0 ≡ get_or e.bytes j 0 = λ j g. get_or-take e.len e.bytes j 0 (omega arith) in
+      let rest : drop 2 used ≡ bs = sym (between_is e.bytes 2 e.len) ∙ sym is in
+      sym (ap (λ (xs : List ℕ). emit xs (pen at out)) (drop_of_length-le bs h) ∙ emit_nothing at out)
       ∙ f
-      ∙ long_turn e 1 p₁ p₂ (omega (arith, l.two)) l.inside second
-      ∙ long_turn e 0 p₀ p₁ (omega (arith, l.two)) l.inside first
-      ∙ ap (λ (bs : List ℕ). emit bs p₀) l.taken
+      ∙ ap (λ (xs : List ℕ). emit xs p₂) (sym rest)
+      ∙ long_turn used 1 p₁ p₂ (omega arith) (rw (here 1 (omega arith)) second)
+      ∙ long_turn used 0 p₀ p₁ (omega arith) (rw (here 0 (omega arith)) first)
+      ∙ ap (λ (xs : List ℕ). emit xs p₀) l.taken

@@ -4,29 +4,29 @@ use Prim.Native.Nat.{ℕ}
 use mathlib.Core.Path.{◌≡◌, refl}
 use mathlib.Core.List.{List}
 use lib.Dec.{eqb}
+use Rattle.std.proofs.Common.{Result, Ok, Err}
 use Rattle.numbers.specs.Pick.{pick}
 use Rattle.numbers.specs.Single.{Single}
 use Rattle.numbers.proofs.Single.{single_value, single_view}
 use Rattle.records.specs.Rows.{Tables}
 use Rattle.asking.specs.declared.WriteFault.{WriteFault}
 use Rattle.asking.proofs.Single.{fault}
-use Rattle.writing.specs.declared.Written.{Written}
 use Rattle.writing.specs.Answers.{Answer, view_written, Given}
 use Rattle.writing.specs.Promises.{MeasureRecordsPromise, WriteBy, WriteRecordsPromise}
 
 -- ---- an answer, made from what it says
 
-abbrev answer : Answer → Written
-answer a = pick (eqb a.number 0) (Written.Bytes a.bytes) (Written.Refused (fault a.number))
+abbrev answer : Answer → Result ℕ WriteFault
+answer a = pick (eqb a.number 0) (Ok a.bytes) (Err (fault a.number))
 
-answer_again : (r : Written) → answer (view_written r) ≡ r
-answer_again (Written.Bytes n) = refl
-answer_again (Written.Refused WriteFault.Codec) = refl
-answer_again (Written.Refused WriteFault.Row) = refl
-answer_again (Written.Refused WriteFault.KeyNotUtf8) = refl
-answer_again (Written.Refused WriteFault.TooLong) = refl
-answer_again (Written.Refused WriteFault.ShortOutput) = refl
-answer_again (Written.Refused WriteFault.BareMarker) = refl
+answer_again : (r : Result ℕ WriteFault) → answer (view_written r) ≡ r
+answer_again (Ok n) = refl
+answer_again (Err WriteFault.Codec) = refl
+answer_again (Err WriteFault.Row) = refl
+answer_again (Err WriteFault.KeyNotUtf8) = refl
+answer_again (Err WriteFault.TooLong) = refl
+answer_again (Err WriteFault.ShortOutput) = refl
+answer_again (Err WriteFault.BareMarker) = refl
 
 -- answers that say the same are the same
 pub single_written : (a : Answer) → Single (λ r. view_written r ≡ a)

@@ -7,21 +7,22 @@ use lib.ListN.{length}
 use mir.Syntax.{w32, w64}
 use mir.Val.{SFits, to_z, of_z}
 use mir.ValLaws.{to_z-of_z}
+use Rattle.std.proofs.Common as std
+use Rattle.std.proofs.Common.{Some, None}
 use Rattle.numbers.specs.Format.{fewest, shortest}
 use Rattle.primitives.specs.declared.Span.{Span}
 use Rattle.sizes.specs.Promises.{NumberSizePromise}
 use Rattle.sizes.specs.Sizes.{span_size, place_size, length_in, head_size, cap, capped}
 use Rattle.sizes.proofs.Steps.{number_back, count_back}
-use Rattle.asking.specs.declared.Shown.{Shown}
 use Rattle.asking.specs.declared.AskedRecord.{AskedRecord}
 use Rattle.asking.specs.Answers.{span_of, head_of}
 use Rattle.writing.specs.Sized.{head_of_size}
 
-pub null_size : (x : Shown) → x ≡ Shown.Null → ◌≡◌ {A = ℕ} 1 (capped (place_size (length_in (span_of x))))
+pub null_size : (x : std.Option Span) → x ≡ None → ◌≡◌ {A = ℕ} 1 (capped (place_size (length_in (span_of x))))
 unfolding shortest fewest
 null_size x e = rw e refl
 
-pub shown_sized : (x : Shown) (bytes : Span) (r : ℕ) → x ≡ Shown.Bytes bytes → r ≡ capped (span_size bytes.len)
+pub shown_sized : (x : std.Option Span) (bytes : Span) (r : ℕ) → x ≡ Some bytes → r ≡ capped (span_size bytes.len)
     → r ≡ capped (place_size (length_in (span_of x)))
 shown_sized x bytes r e f = rw e f
 

@@ -7,13 +7,15 @@ use native.Mathlib.Omega.{arith}
 use borrow.Author.Tests.{le-leb, lt-leb, leb-true}
 use lib.Dec.{leb}
 use lib.ListN.{length}
+use Rattle.std.proofs.Common.{Result, Ok, Err, IsErrAnd}
 use Rattle.numbers.specs.Pick.{pick}
-use Rattle.numbers.specs.Pen.{pen, emit}
+use Rattle.numbers.specs.Pen.{Pen, pen, emit}
 use Rattle.numbers.proofs.Pens.{emit_inside}
 use Rattle.primitives.specs.Step.{Step, ok, no, map_step, times}
 use Rattle.primitives.proofs.Steps.{ok_not_no, map_ok, map_no}
 use Rattle.primitives.proofs.Refusing.{refused_by_lem as by_number}
 use Rattle.primitives.proofs.Picks.{picked}
+use Rattle.primitives.proofs.Exits.{exit}
 use Rattle.records.specs.Judgement.{RecordSpans}
 use Rattle.records.specs.Rows.{Tables}
 use Rattle.records.specs.Placed.{shown_records}
@@ -23,13 +25,10 @@ use Rattle.asking.specs.declared.WriteFault.{WriteFault}
 use Rattle.asking.specs.Answers.{write_number_of}
 use Rattle.asking.specs.Asked.{RowPlace, row_place, record_asked, records_asked}
 use Rattle.asking.proofs.Refusals.{RowFault, records_refused}
-use Rattle.writing.specs.declared.Written.{Written}
-use Rattle.writing.specs.declared.Sized.{Sized}
-use Rattle.writing.specs.declared.Put.{Put}
-use Rattle.writing.specs.Answers.{Answer, writes, refuses, view_written, most_bytes, Given, given, refused, records_given, measured, over}
+use Rattle.writing.specs.Answers.{Answer, writes, refuses, most_bytes, Given, given, refused, records_given, measured, over}
 use Rattle.writing.specs.Promises.{WriteBy}
-use Rattle.writing.specs.Sized.{forget, view_sized}
-use Rattle.writing.specs.Put.{capped_records, view_put}
+use Rattle.writing.specs.Sized.{forget}
+use Rattle.writing.specs.Put.{capped_records}
 use Rattle.writing.proofs.Lengths.{together}
 use Rattle.writing.proofs.Outcomes.{apart}
 
@@ -56,42 +55,42 @@ module _ (t : Tables) (s : List ℕ) (first count : ℕ) where
     unfolding records_asked
     asked_is = rw (le-leb count (length t.records / 8) enough) refl
 
-    module _ (z : Sized)
-        (e : view_sized 0 z ≡ forget (map_step (λ rs. capped (records_size rs)) (times (record_asked t s) count (row_place 0 first)))) where
-      sized : (n : ℕ) → z ≡ Sized.Size n → (rs : List RecordSpans) × (p : RowPlace)
+    module _ (n : ℕ) (e : ok n 0 ≡ forget (map_step (λ rs. capped (records_size rs)) (times (record_asked t s) count (row_place 0 first)))) where
+      sized : (rs : List RecordSpans) × (p : RowPlace)
           × (records_asked t s first count ≡ ok rs p) × (capped (length (written_records (shown_records s rs))) ≡ n)
-      sized n f =
-          let (p, found) = forget_ok (map_step (λ rs. capped (records_size rs)) (times (record_asked t s) count (row_place 0 first))) (sym (ap (view_sized 0) f) ∙ e) in
+      sized =
+          let (p, found) = forget_ok (map_step (λ rs. capped (records_size rs)) (times (record_asked t s) count (row_place 0 first))) e in
           let (rs, is, size) = map_ok (λ rs. capped (records_size rs)) (times (record_asked t s) count (row_place 0 first)) found in
           (rs, p, asked_is ∙ is, ap capped (together t s count (row_place 0 first) is).size ∙ size)
 
-      pub too_long : (n : ℕ) → z ≡ Sized.Size n → most_bytes < n → refuses 23 ≡ measured (records_given s (records_asked t s first count))
-      too_long n f h =
-          let (rs, p, is, size) = sized n f in
+      pub too_long : most_bytes < n → refuses 23 ≡ measured (records_given s (records_asked t s first count))
+      too_long h =
+          let (rs, p, is, size) = sized in
           let long : leb (length (written_records (shown_records s rs))) most_bytes ≡ false
           = lt-leb (length (written_records (shown_records s rs))) most_bytes (omega (arith, size, h)) in
           ap measured (sym (ap (records_given s) is ∙ ap (λ (b : Bool). pick b (given (written_records (shown_records s rs))) (refused 23)) long))
 
-      pub fits : (n : ℕ) → z ≡ Sized.Size n → n ≤ most_bytes → writes n ≡ measured (records_given s (records_asked t s first count))
-      fits n f h =
-          let (rs, p, is, size) = sized n f in
+      pub fits : n ≤ most_bytes → writes n ≡ measured (records_given s (records_asked t s first count))
+      fits h =
+          let (rs, p, is, size) = sized in
           let same : n ≡ length (written_records (shown_records s rs)) = omega (arith, size, h) in
           let short : leb (length (written_records (shown_records s rs))) most_bytes ≡ true
           = le-leb (length (written_records (shown_records s rs))) most_bytes (omega (arith, same, h)) in
           ap writes same
           ∙ ap measured (sym (ap (records_given s) is ∙ ap (λ (b : Bool). pick b (given (written_records (shown_records s rs))) (refused 23)) short))
 
-      pub wrong : (f : WriteFault) → z ≡ Sized.Refused f → refuses (write_number_of f) ≡ measured (records_given s (records_asked t s first count))
-      wrong f g =
-          let none = forget_no (map_step (λ rs. capped (records_size rs)) (times (record_asked t s) count (row_place 0 first))) (sym (ap (view_sized 0) g) ∙ e) in
-          let refusal = map_no (λ rs. capped (records_size rs)) (times (record_asked t s) count (row_place 0 first)) none in
-          ap measured (sym (ap (records_given s) (asked_is ∙ refusal)))
+    pub wrong : (n : ℕ) → no n ≡ forget (map_step (λ rs. capped (records_size rs)) (times (record_asked t s) count (row_place 0 first)))
+        → refuses n ≡ measured (records_given s (records_asked t s first count))
+    wrong n e =
+        let none = forget_no (map_step (λ rs. capped (records_size rs)) (times (record_asked t s) count (row_place 0 first))) e in
+        let refusal = map_no (λ rs. capped (records_size rs)) (times (record_asked t s) count (row_place 0 first)) none in
+        ap measured (sym (ap (records_given s) (asked_is ∙ refusal)))
 
 -- ---- into an output
 
 -- bytes for which there is room, and bytes for which there is none
 written_by : (bs : List ℕ) (at : ℕ) (out output : List ℕ) → at + length bs ≤ length out → output ≡ over at bs out
-    → WriteBy (given bs) at out (record { result = Written.Bytes (length bs); output = output })
+    → WriteBy (given bs) at out (record { result = Ok (length bs); output = output })
 written_by bs at out output h e =
     let room : leb (at + length bs) (length out) ≡ true = le-leb (at + length bs) (length out) h in
     record {
@@ -100,7 +99,7 @@ written_by bs at out output h e =
     }
 
 short_by : (bs : List ℕ) (at : ℕ) (out : List ℕ) → length out < at + length bs
-    → WriteBy (given bs) at out (record { result = Written.Refused WriteFault.ShortOutput; output = out })
+    → WriteBy (given bs) at out (record { result = Err WriteFault.ShortOutput; output = out })
 short_by bs at out h =
     let short : leb (at + length bs) (length out) ≡ false = lt-leb (at + length bs) (length out) h in
     record {
@@ -109,10 +108,15 @@ short_by bs at out h =
     }
 
 -- what is refused is refused with the same number, whatever the output
-pub refused_by_lem : (g : Given) (at : ℕ) (out : List ℕ) (f : WriteFault) (r : Written) → view_written r ≡ measured g → r ≡ Written.Refused f
-    → WriteBy g at out (record { result = Written.Refused f; output = out })
-refused_by_lem (given bs) at out f r e h = apart f (sym (ap view_written h) ∙ e)
-refused_by_lem (refused m) at out f r e h = record { answer = sym (ap view_written h) ∙ e; output = refl }
+pub refused_as : (g : Given) (at : ℕ) (out : List ℕ) (f : WriteFault) → refuses (write_number_of f) ≡ measured g
+    → WriteBy g at out (record { result = Err f; output = out })
+refused_as (given bs) at out f e = apart f e
+refused_as (refused m) at out f e = record { answer = e; output = refl }
+
+pub refused_by_lem : (g : Given) (at : ℕ) (out : List ℕ) (r : Result ℕ WriteFault) (f : WriteFault) → IsErrAnd r (λ e. e ≡ f)
+    → refuses (write_number_of f) ≡ measured g → WriteBy g at out (record { result = r; output = out })
+refused_by_lem g at out r f x e =
+    subst (λ y. WriteBy g at out (record { result = y; output = out })) (sym (exit r x)) (refused_as g at out f e)
 
 module _ (t : Tables) (s : List ℕ) (first count : ℕ) where
   pub record Accepts (n : ℕ) : Type 0 where
@@ -124,12 +128,9 @@ module _ (t : Tables) (s : List ℕ) (first count : ℕ) where
     pub small : n ≤ most_bytes
     pub enough : count ≤ length t.records / 8
 
-  pub accepts : (n : ℕ) (r : Written) → view_written r ≡ measured (records_given s (records_asked t s first count)) → r ≡ Written.Bytes n → Accepts n
-  accepts n r e f = go (records_asked t s first count) refl
+  pub accepts : (n : ℕ) → writes n ≡ measured (records_given s (records_asked t s first count)) → Accepts n
+  accepts n says = go (records_asked t s first count) refl
     where
-      says : writes n ≡ measured (records_given s (records_asked t s first count))
-      says = sym (ap view_written f) ∙ e
-
       go : (x : Step RowPlace (List RecordSpans)) → records_asked t s first count ≡ x → Accepts n
       go (no m) is =
           let zero_is : ◌≡◌ {A = ℕ} 0 m = ap (λ (a : Answer). a.number) (says ∙ ap (λ y. measured (records_given s y)) is) in
@@ -159,27 +160,34 @@ module _ (t : Tables) (s : List ℕ) (first count : ℕ) where
 
   module _ (n : ℕ) (a : Accepts n) (at : ℕ) (out : List ℕ) where
     pub no_room : length out < at + n
-        → WriteBy (records_given s (records_asked t s first count)) at out (record { result = Written.Refused WriteFault.ShortOutput; output = out })
+        → WriteBy (records_given s (records_asked t s first count)) at out (record { result = Err WriteFault.ShortOutput; output = out })
     no_room h =
-        subst (λ g. WriteBy g at out (record { result = Written.Refused WriteFault.ShortOutput; output = out })) (sym a.gives)
+        subst (λ g. WriteBy g at out (record { result = Err WriteFault.ShortOutput; output = out })) (sym a.gives)
         (short_by (written_records (shown_records s a.records)) at out (omega (arith, a.size, h)))
 
-    pub put_all : at + n ≤ length out → (u : Put) (output : List ℕ)
-        → view_put 0 u output ≡ forget (map_step (λ rs. emit (capped_records s rs) (pen at out)) (times (record_asked t s) count (row_place 0 first)))
-        → WriteBy (records_given s (records_asked t s first count)) at out (record { result = Written.Bytes n; output = output })
-    put_all h u output e =
-        let is : times (record_asked t s) count (row_place 0 first) ≡ ok a.records a.place = sym (asked_is t s first count a.enough) ∙ a.asked in
-        let all = together t s count (row_place 0 first) is in
+    rows_are : times (record_asked t s) count (row_place 0 first) ≡ ok a.records a.place
+    rows_are = sym (asked_is t s first count a.enough) ∙ a.asked
+
+    pub put_all : at + n ≤ length out → (k : ℕ) (output : List ℕ)
+        → ok (pen k output) 0 ≡ forget (map_step (λ rs. emit (capped_records s rs) (pen at out)) (times (record_asked t s) count (row_place 0 first)))
+        → WriteBy (records_given s (records_asked t s first count)) at out (record { result = Ok n; output = output })
+    put_all h k output e =
+        let all = together t s count (row_place 0 first) rows_are in
         let bs_are : capped_records s a.records ≡ written_records (shown_records s a.records)
         = all.put (omega (arith, all.size, a.size, a.small)) in
-        let put : view_put 0 u output ≡ ok (emit (written_records (shown_records s a.records)) (pen at out)) 0
-        = e ∙ ap (λ x. forget (map_step (λ rs. emit (capped_records s rs) (pen at out)) x)) is ∙ ap (λ l. ok (emit l (pen at out)) 0) bs_are in
+        let put : ◌≡◌ {A = Step ℕ Pen} (ok (pen k output) 0) (ok (emit (written_records (shown_records s a.records)) (pen at out)) 0)
+        = e ∙ ap (λ x. forget (map_step (λ rs. emit (capped_records s rs) (pen at out)) x)) rows_are
+        ∙ ap (λ (l : List ℕ). ok (emit l (pen at out)) 0) bs_are in
         let written : output ≡ over at (written_records (shown_records s a.records)) out
-        = emitted u output (written_records (shown_records s a.records)) put (omega (arith, a.size, h)) in
-        subst (λ g. WriteBy g at out (record { result = Written.Bytes n; output = output })) (sym a.gives)
-        (subst (λ k. WriteBy (given (written_records (shown_records s a.records))) at out (record { result = Written.Bytes k; output = output })) a.size
+        = emitted k output (written_records (shown_records s a.records)) put (omega (arith, a.size, h)) in
+        subst (λ g. WriteBy g at out (record { result = Ok n; output = output })) (sym a.gives)
+        (subst (λ k. WriteBy (given (written_records (shown_records s a.records))) at out (record { result = Ok k; output = output })) a.size
         (written_by (written_records (shown_records s a.records)) at out output (omega (arith, a.size, h)) written))
       where
-        emitted : (u : Put) (output bs : List ℕ) → view_put 0 u output ≡ ok (emit bs (pen at out)) 0 → at + length bs ≤ length out → output ≡ over at bs out
-        emitted (Put.To k) output bs p l = let w : pen k output ≡ emit bs (pen at out) = cc in emit_inside at out bs k output w l
-        emitted (Put.Refused f) output bs p l = ok_not_no (sym p)
+        emitted : (k : ℕ) (output bs : List ℕ) → ◌≡◌ {A = Step ℕ Pen} (ok (pen k output) 0) (ok (emit bs (pen at out)) 0) → at + length bs ≤ length out → output ≡ over at bs out
+        emitted k output bs p l = let w : pen k output ≡ emit bs (pen at out) = cc in emit_inside at out bs k output w l
+
+    -- rows that were accepted are not refused after that
+    pub never : {X : Type 0} (m : ℕ)
+        → no m ≡ forget (map_step (λ rs. emit (capped_records s rs) (pen at out)) (times (record_asked t s) count (row_place 0 first))) → X
+    never m e = ok_not_no (sym (e ∙ ap (λ x. forget (map_step (λ rs. emit (capped_records s rs) (pen at out)) x)) rows_are))

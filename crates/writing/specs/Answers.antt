@@ -1,13 +1,13 @@
 -- What the writer answers, case by case: document 01's number, and the length that it names.
-use Rattle.std.specs.Prelude.{ℕ, ◌+◌, List, ◌++◌, leb, length, take, drop}
+use Rattle.std.specs.Prelude.{ℕ, ◌+◌, List, ◌++◌, Result, Ok, Err, leb, length, take, drop}
 use Rattle.numbers.specs.Pick.{pick}
 use Rattle.primitives.specs.Step.{Step, ok, no}
 use Rattle.records.specs.Judgement.{RecordSpans}
 use Rattle.records.specs.Placed.{shown_records}
 use Rattle.records.specs.Written.{written_records}
+use Rattle.asking.specs.declared.WriteFault.{WriteFault}
 use Rattle.asking.specs.Asked.{RowPlace}
 use Rattle.asking.specs.Answers.{write_number_of}
-use Rattle.writing.specs.declared.Written.{Written}
 
 -- 0 with the length that is written; any other number with 0
 pub record Answer : Type 0 where
@@ -20,9 +20,9 @@ writes n = record { number = 0; bytes = n }
 abbrev pub refuses : ℕ → Answer
 refuses n = record { number = n; bytes = 0 }
 
-abbrev pub view_written : Written → Answer
-view_written (Written.Bytes n) = writes n
-view_written (Written.Refused f) = refuses (write_number_of f)
+abbrev pub view_written : Result ℕ WriteFault → Answer
+view_written (Ok n) = writes n
+view_written (Err f) = refuses (write_number_of f)
 
 -- ---- records
 

@@ -12,59 +12,29 @@ ghost use Rattle.records.specs.Rows.{tables};
 ghost use Rattle.records.specs.Placed.{shown_header, shown_record};
 ghost use Rattle.records.specs.Written.{written_bytes, written_nullable, written_header, written_headers, written_fields};
 ghost use Rattle.sizes.specs.Inside.{HeaderInside};
-ghost use Rattle.sizes.specs.Sizes.{place_size, length_in, header_size, headers_size, record_size, records_size, cap, capped};
+ghost use Rattle.sizes.specs.Sizes.{place_size, length_in, header_size, headers_size, fields_size, record_size, records_size, cap, capped};
 ghost use Rattle.asking.specs.Asked.{header_asked, row_place, record_asked};
-ghost use Rattle.asking.specs.Answers.{span_of, header_of, head_of};
-ghost use Rattle.writing.specs.Sized.{forget, view_sized, view_row_sized};
-ghost use Rattle.writing.specs.Put.{capped_record, capped_records, view_put, view_row_put};
+ghost use Rattle.asking.specs.Answers.{span_of, header_of, head_of, view_answer};
+ghost use Rattle.writing.specs.Sized.{forget, view_row};
+ghost use Rattle.writing.specs.Put.{capped_record, capped_records};
 ghost use Rattle.writing.specs.Promises.{MeasureRecordsPromise, WriteRecordsPromise};
 
-use asking::{
-    AskedHeader, AskedRecord, HeaderAsked, RecordAsked, Shown, WriteFault, header_asked,
-    record_asked,
-};
-use numbers::{Varint, Varlong, put};
+use asking::{AskedHeader, AskedRecord, WriteFault, header_asked, record_asked};
+use numbers::{Varlong, put};
 use primitives::Span;
 use records::Record;
 use sizes::{capped, number_size, span_size};
 
-// How many bytes are written.
-#[derive(Clone, Copy)]
-pub enum Written {
-    Bytes(usize),
-    Refused(WriteFault),
-}
-
-// How many bytes something takes, as far as a Varint holds them.
-#[derive(Drop)]
-enum Sized {
-    Size(usize),
-    Refused(WriteFault),
-}
-
-// The same of a record, with the header row after its own.
-#[derive(Drop)]
-enum RowSized {
-    Size { bytes: usize, first: usize },
-    Refused(WriteFault),
-}
-
-// The place after what was written.
-#[derive(Drop)]
-enum Put {
-    To(usize),
-    Refused(WriteFault),
-}
-
-// The same of a record, with the header row after its own.
-#[derive(Drop)]
-enum RowPut {
-    To { at: usize, first: usize },
-    Refused(WriteFault),
-}
-
 // The most bytes of records that batchLength leaves room for beside the fields that it counts.
 const MOST: usize = 2147483598;
+
+// What is asked to be written: the lent rows, and the bytes that they name.
+#[derive(Clone, Copy)]
+struct Rows<'a> {
+    records: &'a [i64],
+    headers: &'a [i64],
+    source: &'a [u8],
+}
 
 // How many bytes the records of the first `count` rows take, their headers from `first_header_row` on.
 pub fn measure_records(
@@ -73,21 +43,22 @@ pub fn measure_records(
     first_header_row: usize,
     count: usize,
     source: &[u8],
-) -> Written
+) -> Result<usize, WriteFault>
     ensures { MeasureRecordsPromise (tables records.now headers.now) first_header_row count source.now result }
 {
     if records.len() / Record::ROW < count {
-        return Written::Refused(WriteFault::Row);
+        return Err(WriteFault::Row);
     }
-    match size_records(records, headers, first_header_row, count, source) {
-        Sized::Size(n) => {
-            if MOST < n {
-                return Written::Refused(WriteFault::TooLong);
-            }
-            Written::Bytes(n)
-        }
-        Sized::Refused(f) => Written::Refused(f),
+    let rows = Rows {
+        records,
+        headers,
+        source,
+    };
+    let n = rows.size_records(first_header_row, count)?;
+    if MOST < n {
+        return Err(WriteFault::TooLong);
     }
+    Ok(n)
 }
 
 // The same, and their bytes in the output from `at` on. Nothing is written before all rows are known to be right, and
@@ -100,38 +71,31 @@ pub fn write_records(
     source: &[u8],
     output: &mut [u8],
     at: usize,
-) -> Written
+) -> Result<usize, WriteFault>
     ensures { WriteRecordsPromise (tables records.now headers.now) first_header_row count source.now at output.old (record { result = result; output = output.new }) }
 {
-    match measure_records(records, headers, first_header_row, count, source) {
-        Written::Bytes(n) => {
-            if output.len() < n {
-                return Written::Refused(WriteFault::ShortOutput);
-            }
-            if output.len() - n < at {
-                return Written::Refused(WriteFault::ShortOutput);
-            }
-            put_records(
-                records,
-                headers,
-                first_header_row,
-                count,
-                source,
-                output,
-                at,
-            );
-            Written::Bytes(n)
-        }
-        Written::Refused(f) => Written::Refused(f),
+    let n = measure_records(records, headers, first_header_row, count, source)?;
+    if output.len() < n {
+        return Err(WriteFault::ShortOutput);
     }
+    if output.len() - n < at {
+        return Err(WriteFault::ShortOutput);
+    }
+    let rows = Rows {
+        records,
+        headers,
+        source,
+    };
+    rows.put_records(first_header_row, count, output, at)?;
+    Ok(n)
 }
 
-fn shown_size(x: Shown) -> usize
+fn shown_size(x: Option<Span>) -> usize
     ensures { result ≡ capped (place_size (length_in (span_of x))) }
 {
     match x {
-        Shown::Null => 1,
-        Shown::Bytes(bytes) => span_size(bytes.len),
+        None => 1,
+        Some(bytes) => span_size(bytes.len),
     }
 }
 
@@ -152,111 +116,67 @@ fn head_size(timestamp_delta: i64, offset_delta: i32, bytes: usize, headers: usi
     capped(1 + deltas + bytes + number_size(headers as i64))
 }
 
-// The headers of a record, with the `head` bytes that stand before them.
-fn size_headers(headers: &[i64], source: &[u8], first: usize, count: usize, head: usize) -> Sized
-    requires { (first + count ≤ length headers.now / 4) × (head ≤ cap) }
-    ensures { view_sized (first + count) result ≡ map_step (λ hs. capped (head + headers_size hs)) (times (header_asked headers.now source.now) count first) }
-{
-    let mut left = count;
-    let mut row = first;
-    let mut sum = head;
-    while 0 < left {
-        match header_asked(headers, source, row) {
-            HeaderAsked::Got(h) => {
-                let n = header_size(h);
-                sum = capped(sum + n);
-            }
-            HeaderAsked::Refused(f) => {
-                return Sized::Refused(f);
-            }
+impl Rows<'_> {
+    // The headers of a record, with the `head` bytes that stand before them.
+    fn size_headers(self, first: usize, count: usize, head: usize) -> Result<usize, WriteFault>
+        requires { (first + count ≤ length self.headers.now / 4) × (head ≤ cap) }
+        ensures { view_answer (first + count) (λ n. n) result ≡ map_step (λ hs. capped (head + headers_size hs)) (times (header_asked self.entry.headers.now self.entry.source.now) count first) }
+    {
+        let mut sum = head;
+        for row in first..first + count {
+            let h = header_asked(self.headers, self.source, row)?;
+            sum = capped(sum + header_size(h));
         }
-        row += 1;
-        left -= 1;
+        Ok(sum)
     }
-    Sized::Size(sum)
-}
 
-fn size_record(
-    records: &[i64],
-    headers: &[i64],
-    source: &[u8],
-    row: usize,
-    first: usize,
-) -> RowSized
-    requires { row < length records.now / 8 }
-    ensures { view_row_sized row result ≡ map_step (λ x. capped (record_size x)) (record_asked (tables records.now headers.now) source.now (row_place row first)) }
-{
-    match record_asked(records, headers, source, row, first) {
-        RecordAsked::Got(r) => {
-            let next = first + r.headers;
-            let key = r.key;
-            let value = r.value;
-            let bytes = shown_size(key) + shown_size(value);
-            let head = head_size(r.timestamp_delta, r.offset_delta, bytes, r.headers);
-            // Most records have no headers, and need no walk over them.
-            let fields = if r.headers == 0 {
-                Sized::Size(head)
-            } else {
-                size_headers(headers, source, first, r.headers, head)
-            };
-            match fields {
-                Sized::Size(n) => RowSized::Size {
-                    bytes: span_size(n),
-                    first: next,
-                },
-                Sized::Refused(f) => RowSized::Refused(f),
-            }
+    // What follows a record's length, where its headers stand from `first` on.
+    #[inline(always)]
+    fn fields_size(self, r: AskedRecord, first: usize) -> Result<usize, WriteFault>
+        requires { first + r.headers ≤ length self.headers.now / 4 }
+        ensures { view_answer (first + r.headers) (λ n. n) result ≡ map_step (λ hs. capped (fields_size (with_headers (head_of r) hs))) (times (header_asked self.entry.headers.now self.entry.source.now) r.headers first) }
+    {
+        let bytes = shown_size(r.key) + shown_size(r.value);
+        let head = head_size(r.timestamp_delta, r.offset_delta, bytes, r.headers);
+        // Most records have no headers, and need no walk over them.
+        if r.headers == 0 {
+            return Ok(head);
         }
-        RecordAsked::Wrong => RowSized::Refused(WriteFault::Row),
+        self.size_headers(first, r.headers, head)
     }
-}
 
-// The walk that measures.
-fn size_records(
-    records: &[i64],
-    headers: &[i64],
-    first_header_row: usize,
-    count: usize,
-    source: &[u8],
-) -> Sized
-    requires { count ≤ length records.now / 8 }
-    ensures { view_sized 0 result ≡ forget (map_step (λ rs. capped (records_size rs)) (times (record_asked (tables records.now headers.now) source.now) count (row_place 0 first_header_row))) }
-{
-    let mut left = count;
-    let mut row: usize = 0;
-    let mut first = first_header_row;
-    let mut sum: usize = 0;
-    while 0 < left {
-        match size_record(records, headers, source, row, first) {
-            RowSized::Size { bytes, first: next } => {
-                sum = capped(sum + bytes);
-                first = next;
-            }
-            RowSized::Refused(f) => {
-                return Sized::Refused(f);
-            }
+    // How many bytes a record takes, and the header row after its own.
+    fn size_record(self, row: usize, first: usize) -> Result<(usize, usize), WriteFault>
+        requires { row < length self.records.now / 8 }
+        ensures { view_row row (λ n. n) result ≡ map_step (λ x. capped (record_size x)) (record_asked (tables self.entry.records.now self.entry.headers.now) self.entry.source.now (row_place row first)) }
+    {
+        let r = record_asked(self.records, self.headers, self.source, row, first)?;
+        let size = self.fields_size(r, first)?;
+        Ok((span_size(size), first + r.headers))
+    }
+
+    // The walk that measures, as far as a Varint holds the sum.
+    fn size_records(self, first_header_row: usize, count: usize) -> Result<usize, WriteFault>
+        requires { count ≤ length self.records.now / 8 }
+        ensures { view_answer 0 (λ n. n) result ≡ forget (map_step (λ rs. capped (records_size rs)) (times (record_asked (tables self.entry.records.now self.entry.headers.now) self.entry.source.now) count (row_place 0 first_header_row))) }
+    {
+        let mut first = first_header_row;
+        let mut sum: usize = 0;
+        for row in 0..count {
+            let (bytes, next) = self.size_record(row, first)?;
+            sum = capped(sum + bytes);
+            first = next;
         }
-        row += 1;
-        left -= 1;
+        Ok(sum)
     }
-    Sized::Size(sum)
 }
 
-// A number of one byte, as most are, has a way of its own.
-fn put_varint(n: Varint, output: &mut [u8], at: usize) -> usize
-    ensures { pen result output.new ≡ emit (shortest n.0) (pen at output.old) }
+// A Varint or a Varlong: the shortest bytes of both are the same. A number of one byte, as most are, has a way of its
+// own.
+#[inline(always)]
+fn put_number(n: i64, output: &mut [u8], at: usize) -> usize
+    ensures { pen result output.new ≡ emit (shortest n) (pen at output.old) }
 {
-    let n = n.0 as i64;
-    if is_one_byte(n) {
-        return put_byte(one_byte(n), output, at);
-    }
-    put_long(Varlong(n), output, at)
-}
-
-fn put_varlong(n: Varlong, output: &mut [u8], at: usize) -> usize
-    ensures { pen result output.new ≡ emit (shortest n.0) (pen at output.old) }
-{
-    let n = n.0;
     if is_one_byte(n) {
         return put_byte(one_byte(n), output, at);
     }
@@ -295,6 +215,7 @@ fn put_byte(b: u8, output: &mut [u8], at: usize) -> usize
 
 // A number of more than one byte, of either width. Its bytes are put one by one: taken together they would be waited
 // for, since they have only just been stored.
+#[inline(never)]
 fn put_long(n: Varlong, output: &mut [u8], from: usize) -> usize
     requires { 128 ≤ zigzag n.0 }
     ensures { pen result output.new ≡ emit (shortest n.0) (pen from output.old) }
@@ -302,21 +223,18 @@ fn put_long(n: Varlong, output: &mut [u8], from: usize) -> usize
     let e = n.encode();
     let second = put_byte(e.bytes[0], output, from);
     let mut at = put_byte(e.bytes[1], output, second);
-    let mut i: usize = 2;
-    while i < e.len {
-        at = put_byte(e.bytes[i], output, at);
-        i += 1;
+    for &b in &e.bytes[2..e.len] {
+        at = put_byte(b, output, at);
     }
     at
 }
 
-// A length or a count. Both are Varints, and their shortest bytes are those of a Varlong: so one that no Varint holds,
-// which measuring has refused, needs no case of its own.
+// A length or a count. One that no Varint holds, which measuring has refused, needs no case of its own.
 fn put_length(n: usize, output: &mut [u8], at: usize) -> usize
     requires { n < 2 ^ 63 }
     ensures { pen result output.new ≡ emit (shortest (pos n)) (pen at output.old) }
 {
-    put_varlong(Varlong(n as i64), output, at)
+    put_number(n as i64, output, at)
 }
 
 // Bytes of the source after their length.
@@ -331,13 +249,13 @@ fn put_span(source: &[u8], x: Span, output: &mut [u8], at: usize) -> usize
 }
 
 // The same, or null.
-fn put_shown(source: &[u8], x: Shown, output: &mut [u8], at: usize) -> usize
+fn put_shown(source: &[u8], x: Option<Span>, output: &mut [u8], at: usize) -> usize
     requires { NullableInside source.now (span_of x) }
     ensures { pen result output.new ≡ emit (written_nullable (shown source.now (span_of x))) (pen at output.old) }
 {
     match x {
-        Shown::Null => put_varint(Varint(-1), output, at),
-        Shown::Bytes(bytes) => put_span(source, bytes, output, at),
+        None => put_number(-1, output, at),
+        Some(bytes) => put_span(source, bytes, output, at),
     }
 }
 
@@ -349,36 +267,6 @@ fn put_header(source: &[u8], h: AskedHeader, output: &mut [u8], at: usize) -> us
     let value = h.value;
     let next = put_span(source, key, output, at);
     put_span(source, value, output, next)
-}
-
-// The headers of a record.
-fn put_headers(
-    headers: &[i64],
-    source: &[u8],
-    first: usize,
-    count: usize,
-    output: &mut [u8],
-    from: usize,
-) -> Put
-    requires { first + count ≤ length headers.now / 4 }
-    ensures { view_put (first + count) result output.new ≡ map_step (λ hs. emit (written_headers (map (shown_header source.now) hs)) (pen from output.old)) (times (header_asked headers.now source.now) count first) }
-{
-    let mut left = count;
-    let mut row = first;
-    let mut at = from;
-    while 0 < left {
-        match header_asked(headers, source, row) {
-            HeaderAsked::Got(h) => {
-                at = put_header(source, h, output, at);
-            }
-            HeaderAsked::Refused(f) => {
-                return Put::Refused(f);
-            }
-        }
-        row += 1;
-        left -= 1;
-    }
-    Put::To(at)
 }
 
 // A record's length, its attributes and its deltas.
@@ -394,15 +282,15 @@ fn put_start(
 {
     let at_attributes = put_length(size, output, at);
     let at_timestamp = put_byte(0, output, at_attributes);
-    let at_offset = put_varlong(Varlong(timestamp_delta), output, at_timestamp);
-    put_varint(Varint(offset_delta), output, at_offset)
+    let at_offset = put_number(timestamp_delta, output, at_timestamp);
+    put_number(offset_delta as i64, output, at_offset)
 }
 
 // Its key, its value and the number of its headers.
 fn put_middle(
     source: &[u8],
-    key: Shown,
-    value: Shown,
+    key: Option<Span>,
+    value: Option<Span>,
     count: usize,
     output: &mut [u8],
     at: usize,
@@ -415,96 +303,76 @@ fn put_middle(
     put_length(count, output, at_count)
 }
 
-// A record, after the length that is given for it.
-fn put_fields(
-    headers: &[i64],
-    source: &[u8],
-    size: usize,
-    r: AskedRecord,
-    first: usize,
-    output: &mut [u8],
-    at: usize,
-) -> Put
-    requires { (size < 2 ^ 63) × (first + r.headers ≤ length headers.now / 4) × NullableInside source.now (span_of r.key) × NullableInside source.now (span_of r.value) }
-    ensures { view_put (first + r.headers) result output.new ≡ map_step (λ hs. emit (shortest (pos size) ++ written_fields (shown_record source.now (with_headers (head_of r) hs))) (pen at output.old)) (times (header_asked headers.now source.now) r.headers first) }
-{
-    let key = r.key;
-    let value = r.value;
-    let count = r.headers;
-    let at_key = put_start(size, r.timestamp_delta, r.offset_delta, output, at);
-    let at_headers = put_middle(source, key, value, count, output, at_key);
-    put_headers(headers, source, first, count, output, at_headers)
-}
-
-fn put_record(
-    records: &[i64],
-    headers: &[i64],
-    source: &[u8],
-    row: usize,
-    first: usize,
-    output: &mut [u8],
-    at: usize,
-) -> RowPut
-    requires { row < length records.now / 8 }
-    ensures { view_row_put row result output.new ≡ map_step (λ x. emit (capped_record source.now x) (pen at output.old)) (record_asked (tables records.now headers.now) source.now (row_place row first)) }
-{
-    match record_asked(records, headers, source, row, first) {
-        RecordAsked::Got(r) => {
-            let next = first + r.headers;
-            let key = r.key;
-            let value = r.value;
-            let bytes = shown_size(key) + shown_size(value);
-            let head = head_size(r.timestamp_delta, r.offset_delta, bytes, r.headers);
-            // Most records have no headers, and need no walk over them.
-            let fields = if r.headers == 0 {
-                Sized::Size(head)
-            } else {
-                size_headers(headers, source, first, r.headers, head)
-            };
-            match fields {
-                Sized::Size(n) => match put_fields(headers, source, n, r, first, output, at) {
-                    Put::To(at) => RowPut::To { at, first: next },
-                    Put::Refused(f) => RowPut::Refused(f),
-                },
-                Sized::Refused(f) => RowPut::Refused(f),
-            }
+impl Rows<'_> {
+    // The headers of a record. Gives the place after them.
+    fn put_headers(
+        self,
+        first: usize,
+        count: usize,
+        output: &mut [u8],
+        from: usize,
+    ) -> Result<usize, WriteFault>
+        requires { first + count ≤ length self.headers.now / 4 }
+        ensures { view_answer (first + count) (λ at. pen at output.new) result ≡ map_step (λ hs. emit (written_headers (map (shown_header self.entry.source.now) hs)) (pen from output.old)) (times (header_asked self.entry.headers.now self.entry.source.now) count first) }
+    {
+        let mut at = from;
+        for row in first..first + count {
+            let h = header_asked(self.headers, self.source, row)?;
+            at = put_header(self.source, h, output, at);
         }
-        RecordAsked::Wrong => RowPut::Refused(WriteFault::Row),
+        Ok(at)
     }
-}
 
-// The walk that writes. It reads the rows as the walk that measures does, and is run once that has accepted them.
-fn put_records(
-    records: &[i64],
-    headers: &[i64],
-    first_header_row: usize,
-    count: usize,
-    source: &[u8],
-    output: &mut [u8],
-    from: usize,
-) -> Put
-    requires { count ≤ length records.now / 8 }
-    ensures { view_put 0 result output.new ≡ forget (map_step (λ rs. emit (capped_records source.now rs) (pen from output.old)) (times (record_asked (tables records.now headers.now) source.now) count (row_place 0 first_header_row))) }
-{
-    let mut left = count;
-    let mut row: usize = 0;
-    let mut first = first_header_row;
-    let mut at = from;
-    while 0 < left {
-        match put_record(records, headers, source, row, first, output, at) {
-            RowPut::To {
-                at: next,
-                first: next_first,
-            } => {
-                at = next;
-                first = next_first;
-            }
-            RowPut::Refused(f) => {
-                return Put::Refused(f);
-            }
-        }
-        row += 1;
-        left -= 1;
+    // A record, after the length that is given for it. Gives the place after it.
+    fn put_fields(
+        self,
+        size: usize,
+        r: AskedRecord,
+        first: usize,
+        output: &mut [u8],
+        at: usize,
+    ) -> Result<usize, WriteFault>
+        requires { (size < 2 ^ 63) × (first + r.headers ≤ length self.headers.now / 4) × NullableInside self.source.now (span_of r.key) × NullableInside self.source.now (span_of r.value) }
+        ensures { view_answer (first + r.headers) (λ at. pen at output.new) result ≡ map_step (λ hs. emit (shortest (pos size) ++ written_fields (shown_record self.entry.source.now (with_headers (head_of r) hs))) (pen at output.old)) (times (header_asked self.entry.headers.now self.entry.source.now) r.headers first) }
+    {
+        let at_key = put_start(size, r.timestamp_delta, r.offset_delta, output, at);
+        let at_headers = put_middle(self.source, r.key, r.value, r.headers, output, at_key);
+        self.put_headers(first, r.headers, output, at_headers)
     }
-    Put::To(at)
+
+    // The place after a record, and the header row after its own.
+    fn put_record(
+        self,
+        row: usize,
+        first: usize,
+        output: &mut [u8],
+        at: usize,
+    ) -> Result<(usize, usize), WriteFault>
+        requires { row < length self.records.now / 8 }
+        ensures { view_row row (λ at. pen at output.new) result ≡ map_step (λ x. emit (capped_record self.entry.source.now x) (pen at output.old)) (record_asked (tables self.entry.records.now self.entry.headers.now) self.entry.source.now (row_place row first)) }
+    {
+        let r = record_asked(self.records, self.headers, self.source, row, first)?;
+        let size = self.fields_size(r, first)?;
+        let next = self.put_fields(size, r, first, output, at)?;
+        Ok((next, first + r.headers))
+    }
+
+    // The walk that writes. It reads the rows as the walk that measures does, and is run once that has accepted them.
+    fn put_records(
+        self,
+        first_header_row: usize,
+        count: usize,
+        output: &mut [u8],
+        from: usize,
+    ) -> Result<usize, WriteFault>
+        requires { count ≤ length self.records.now / 8 }
+        ensures { view_answer 0 (λ at. pen at output.new) result ≡ forget (map_step (λ rs. emit (capped_records self.entry.source.now rs) (pen from output.old)) (times (record_asked (tables self.entry.records.now self.entry.headers.now) self.entry.source.now) count (row_place 0 first_header_row))) }
+    {
+        let mut first = first_header_row;
+        let mut at = from;
+        for row in 0..count {
+            (at, first) = self.put_record(row, first, output, at)?;
+        }
+        Ok(at)
+    }
 }

@@ -1,18 +1,15 @@
 -- `canonical::canonical_records` meets its contract. Assumes nothing.
-use Rattle.canonical.proofs.StrictSteps.{run_stop, run_turn, run_ends, run_elsewhere}
+use Rattle.std.proofs.Common.{◌≡◌, ◌+◌, ◌-◌, arith}
+use Rattle.canonical.proofs.StrictSteps.{run_stop, run_turn, run_done}
 use Rattle.canonical.proofs.canonical_records.Goals as goal
 
-pub loop-left-init : goal.loop-left-init
-loop-left-init c = (λ t. t, λ t. t)
+pub returns-in_default : goal.returns-in_default
+returns-in_default c = run_stop _ _ _ c.loop.invariant (omega arith) c.in_default.ensures
 
-pub returns-in-Refused : goal.returns-in-Refused
-returns-in-Refused c = search run_stop
-
-pub loop-left-preserved : goal.loop-left-preserved
-loop-left-preserved c = search run_turn
-
-pub returns-then-c-bytes : goal.returns-then-c-bytes
-returns-then-c-bytes c = search run_ends
+pub loop-preserved : goal.loop-preserved
+loop-preserved c =
+    let fewer : c.args.count - (c.loop.counter + 1) ≡ c.args.count - c.loop.counter - 1 = omega arith in
+    rw fewer (run_turn _ _ _ c.loop.invariant _ (omega arith) c.in-Some.ensures)
 
 pub returns : goal.returns
-returns c = search run_elsewhere
+returns c = run_done _ _ _ c.loop.invariant (omega arith)

@@ -1,17 +1,11 @@
 -- `canonical::headers_size` meets its contract. Assumes nothing.
-use mathlib.Core.Path.{refl}
-use native.Mathlib.Omega.{arith}
-use Rattle.canonical.proofs.SizeSteps.{headers_stop, headers_turn, headers_end}
+use Rattle.std.proofs.Common.{◌≡◌, ◌+◌, ◌-◌, arith}
+use Rattle.canonical.proofs.SizeSteps.{headers_turn}
 use Rattle.canonical.proofs.headers_size.Goals as goal
 
-pub loop-left-init : goal.loop-left-init
-loop-left-init c = (refl, omega arith)
-
-pub returns-in-Refused : goal.returns-in-Refused
-returns-in-Refused c = search headers_stop
-
-pub loop-left-preserved : goal.loop-left-preserved
-loop-left-preserved c = (search headers_turn, omega arith)
-
-pub returns : goal.returns
-returns c = search headers_end
+pub loop-preserved : goal.loop-preserved
+loop-preserved c =
+    let fewer : c.args.count - (c.loop.counter + 1) ≡ c.args.count - c.loop.counter - 1 = omega arith in (
+      rw fewer (headers_turn _ _ _ _ _ c.loop.invariant.0 _ _ _ _ (omega arith) c.in_ok-h.ensures c.header_size.ensures c.capped-sum.ensures),
+      omega arith,
+    )

@@ -12,8 +12,8 @@ slice_bounds-read_bare-end c = search bare_cut
 pub put_rekeyed-requires : goal.put_rekeyed-requires
 put_rekeyed-requires c = search (bare_fixed, rules)
 
-pub returns-in-Got : goal.returns-in-Got
-returns-in-Got c = search (rekey_done, rules)
+pub returns-in_err-marker : goal.returns-in_err-marker
+returns-in_err-marker c = rekey_never _ c.requires.0 c.requires.1 _ c.in_err-marker.ensures _
 
-pub returns-in-Refused : goal.returns-in-Refused
-returns-in-Refused c = search rekey_never
+pub returns : goal.returns
+returns c = rekey_done _ c.requires.0 c.requires.1 _ _ _ c.in_ok-marker.ensures (search rules) _ c.put_rekeyed.ensures

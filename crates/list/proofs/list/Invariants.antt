@@ -1,10 +1,13 @@
 -- `list::list` meets its contract: it is safe, and it ends since each turn but the last goes further on. Assumes
 -- nothing.
-use Rattle.std.specs.Prelude.{◌-◌, ◌≡◌, length}
+use Rattle.std.specs.Prelude.{ℕ, suc, ◌-◌, List, length, Some, None}
+use Rattle.std.specs.Prelude as std
 use Rattle.list.proofs.list.Given as goal
 
-abbrev pub invariant-loop-next : goal.invariant-loop-next
-invariant-loop-next g l = (length l.records ≡ length l.initial.records) × (length l.headers ≡ length l.initial.headers)
+-- the turns that are left at most
+abbrev pub left : List ℕ → std.Option ℕ → ℕ
+left s None = 0
+left s (Some place) = suc (length s - place)
 
 abbrev pub decreases-loop-next : goal.decreases-loop-next
-decreases-loop-next g l = length l.bytes - l.place
+decreases-loop-next g l = left l.bytes l.next

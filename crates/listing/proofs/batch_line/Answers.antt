@@ -18,5 +18,5 @@ returns c =
     ∙ ap (written _) (ap (λ (n : ℤ). spaced (signed_decimal n)) (to_z-of_z w64 c.args.base c.ranges.base)))
     (onto _ _ _ c.number-opening.ensures
     (onto _ _ _ c.kind.ensures
-    (onto _ _ _ (c.number.ensures ∙ ap (written _) (ap (λ (n : ℕ). spaced (decimal n)) c.records_of.ensures))
+    (onto _ _ _ (c.number.ensures ∙ ap (written _) (ap (λ (n : ℕ). spaced (decimal n)) c.record_count.ensures))
     c.number-2.ensures)))

@@ -2,8 +2,8 @@
 use Rattle.numbers.proofs.Written.{Written}
 use Rattle.numbers.proofs.many_bytes.Given as goal
 
-abbrev pub invariant-loop-x : goal.invariant-loop-x
-invariant-loop-x l = Written l.c l.bytes l.n l.x
+abbrev pub invariant-loop-rest : goal.invariant-loop-rest
+invariant-loop-rest l = Written l.c l.bytes l.n l.rest
 
-abbrev pub decreases-loop-x : goal.decreases-loop-x
-decreases-loop-x l = l.x
+abbrev pub decreases-loop-rest : goal.decreases-loop-rest
+decreases-loop-rest l = l.rest

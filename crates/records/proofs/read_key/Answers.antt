@@ -1,29 +1,16 @@
 -- `records::read_key` meets its contract. Assumes nothing.
-use Rattle.records.proofs.FieldSteps.{key_got, key_not_utf8, key_null, key_refused}
-use native.Mathlib.Omega.{arith}
-use Rattle.records.proofs.FieldSteps.{place_ends}
+use Rattle.std.proofs.Common.{◌≡◌, Some, ap, arith}
+use Rattle.primitives.specs.Step.{ok}
+use Rattle.records.proofs.FieldSteps.{key_ends, key_is}
 use Rattle.records.proofs.read_key.Goals as goal
 
-pub slice_bounds-is_utf8-count : goal.slice_bounds-is_utf8-count
-slice_bounds-is_utf8-count c = omega (arith, place_ends _ _ _ _ c.read_span.ensures _ _ c.in-Span.is)
-
-pub slice_bounds-is_utf8-start : goal.slice_bounds-is_utf8-start
-slice_bounds-is_utf8-start c = omega (arith, place_ends _ _ _ _ c.read_span.ensures _ _ c.in-Span.is)
-
-pub slice_bounds-is_utf8-end : goal.slice_bounds-is_utf8-end
-slice_bounds-is_utf8-end c = omega (arith, place_ends _ _ _ _ c.read_span.ensures _ _ c.in-Span.is)
-
-pub place_of-requires : goal.place_of-requires
-place_of-requires c = omega (arith, place_ends _ _ _ _ c.read_span.ensures _ _ c.in-Span.is)
-
 pub returns-then-is_utf8 : goal.returns-then-is_utf8
-returns-then-is_utf8 c = search key_got
+returns-then-is_utf8 c =
+    let there : c.in_ok-key.key ≡ Some c.in_ok-key-2.key = grind arith in
+    let row = c.from.ensures (omega (arith, key_ends _ _ _ c.in_ok-key.ensures there)) in
+    rw (key_is _ _ (rw there at c.in_ok-key.ensures) _ c.is_utf8.ensures, c.if-is_utf8.true) (ap (λ r. ok r c.in_ok-key.next.at) row)
 
-pub returns-else-is_utf8 : goal.returns-else-is_utf8
-returns-else-is_utf8 c = search key_not_utf8
-
-pub returns-in-Null : goal.returns-in-Null
-returns-in-Null c = search key_null
-
-pub returns-in-Refused : goal.returns-in-Refused
-returns-in-Refused c = search key_refused
+pub returns : goal.returns
+returns c =
+    let there : c.in_ok-key.key ≡ Some c.in_ok-key-2.key = grind arith in
+    rw (key_is _ _ (rw there at c.in_ok-key.ensures) _ c.is_utf8.ensures, c.if-is_utf8.false)

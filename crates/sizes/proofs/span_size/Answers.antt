@@ -1,12 +1,9 @@
 -- `sizes::span_size` meets its contract. Assumes nothing.
-use Rattle.sizes.proofs.Steps.{span_short, span_stops, span_got}
+use Rattle.sizes.proofs.Steps.{span_short, span_got}
 use Rattle.sizes.proofs.span_size.Goals as goal
 
 pub returns-then-len-lt64 : goal.returns-then-len-lt64
 returns-then-len-lt64 c = search span_short
-
-pub returns-then-len-ge-CAP : goal.returns-then-len-ge-CAP
-returns-then-len-ge-CAP c = search span_stops
 
 pub returns : goal.returns
 returns c = search span_got

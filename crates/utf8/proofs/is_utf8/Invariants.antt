@@ -1,12 +1,11 @@
--- `utf8::is_utf8` meets its contract: what stands before i are whole characters. Assumes nothing.
-use Prim.Native.Nat.{◌-◌, ◌≤◌}
-use mathlib.Core.List.{[]}
+-- `utf8::is_utf8` meets its contract: what stands before the rest are whole characters. Assumes nothing.
+use mathlib.Core.Path.{◌≡◌}
 use lib.ListN.{length}
-use Rattle.utf8.specs.Steps.{Passed}
+use Rattle.utf8.specs.Judgement.{is_utf8}
 use Rattle.utf8.proofs.is_utf8.Given as goal
 
-abbrev pub invariant-loop-i : goal.invariant-loop-i
-invariant-loop-i l = (l.i ≤ length l.s) × Passed [] l.s 0 [] l.i
+abbrev pub invariant-loop-first : goal.invariant-loop-first
+invariant-loop-first l = is_utf8 l.s ≡ is_utf8 l.rest
 
-abbrev pub decreases-loop-i : goal.decreases-loop-i
-decreases-loop-i l = length l.s - l.i
+abbrev pub decreases-loop-first : goal.decreases-loop-first
+decreases-loop-first l = length l.rest

@@ -1,13 +1,8 @@
--- `writing::put_long` meets its contract: the first i bytes are put. Assumes nothing.
-use Prim.Native.Nat.{◌-◌}
+-- `writing::put_long` meets its contract. Assumes nothing.
 use mathlib.Core.Path.{◌≡◌}
-use lib.ListN.{length, take, drop}
+use lib.ListN.{drop}
 use Rattle.numbers.specs.Pen.{pen, emit}
 use Rattle.writing.proofs.put_long.Given as goal
 
-abbrev pub invariant-loop-i : goal.invariant-loop-i
-invariant-loop-i l =
-    (emit (drop l.i (take l.e.len l.e.bytes)) (pen l.at l.output) ≡ emit (drop 2 (take l.e.len l.e.bytes)) (pen l.initial.at l.initial.output)) × (length l.output ≡ length l.initial.output)
-
-abbrev pub decreases-loop-i : goal.decreases-loop-i
-decreases-loop-i l = l.e.len - l.i
+abbrev pub invariant-loop-b : goal.invariant-loop-b
+invariant-loop-b l = emit (drop l.b-index l.b-items) (pen l.at l.output) ≡ emit l.b-items (pen l.initial.at l.initial.output)

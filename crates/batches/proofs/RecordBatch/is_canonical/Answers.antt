@@ -1,24 +1,28 @@
 -- `batches::RecordBatch::is_canonical` meets its contract. Assumes nothing.
-use Rattle.batches.proofs.Strictly.{opened_fixed, canonical_more, canonical_refused, canonical_longer, canonical_loose, canonical_marker, canonical_rows}
+use mathlib.Core.Path.{ap}
+use mathlib.Core.Bool.{not}
+use Rattle.batches.proofs.Strictly.{opened_fixed, canonical_unopened, canonical_longer, canonical_loose, canonical_marker, canonical_rows}
 use Rattle.batches.proofs.RecordBatch.is_canonical.Goals as goal
 
-pub returns-then-total-bytes : goal.returns-then-total-bytes
-returns-then-total-bytes c = search canonical_longer
+pub returns-in_default : goal.returns-in_default
+returns-in_default c = canonical_unopened _ _ c.type_inv.bytes _ c.in_default.ensures
+
+pub returns-then-opened-bytes : goal.returns-then-opened-bytes
+returns-then-opened-bytes c = canonical_longer _ _ c.type_inv.bytes _ c.in-Ok.ensures c.if-opened-bytes.true
 
 pub is_tight-requires : goal.is_tight-requires
-is_tight-requires c = search opened_fixed
+is_tight-requires c = opened_fixed _ _ c.in-Ok.ensures
 
 pub returns-then-not-is_tight : goal.returns-then-not-is_tight
-returns-then-not-is_tight c = search canonical_loose
+returns-then-not-is_tight c =
+    canonical_loose _ _ c.type_inv.bytes _ c.in-Ok.ensures c.if-opened-bytes.false _ c.is_tight.ensures (ap not c.if-not-is_tight.true)
 
-pub returns-then-is_control : goal.returns-then-is_control
-returns-then-is_control c = search canonical_marker
+pub returns-then-opened : goal.returns-then-opened
+returns-then-opened c =
+    canonical_marker _ _ c.type_inv.bytes _ c.in-Ok.ensures c.if-opened-bytes.false _ c.is_tight.ensures (ap not c.if-not-is_tight.false)
+    c.if-opened.true _ c.stands.ensures
 
-pub returns-else-is_control : goal.returns-else-is_control
-returns-else-is_control c = search canonical_rows
-
-pub returns-in-MoreBytes : goal.returns-in-MoreBytes
-returns-in-MoreBytes c = search canonical_more
-
-pub returns-in-Refused : goal.returns-in-Refused
-returns-in-Refused c = search canonical_refused
+pub returns : goal.returns
+returns c =
+    canonical_rows _ _ c.type_inv.bytes _ c.in-Ok.ensures c.if-opened-bytes.false _ c.is_tight.ensures (ap not c.if-not-is_tight.false)
+    c.if-opened.false _ c.canonical_records.ensures

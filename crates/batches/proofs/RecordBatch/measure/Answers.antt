@@ -10,8 +10,7 @@ returns-then-codec-ne0 c = search measure_codec
 
 pub overflow_add-result : goal.overflow_add-result
 overflow_add-result c =
-    let given = c.args in
-    let small = measured_small (view_fields given.self) _ _ _ _ _ c.measure_records.ensures c.in-Bytes.is in
+    let small = measured_small (view_fields c.args.self) _ _ _ _ c.in_ok-size-in-Records.ensures in
     record { fits = omega (arith, small) }
 
 pub returns-in-Bare : goal.returns-in-Bare
@@ -20,8 +19,10 @@ returns-in-Bare c = search (measure_bare, rules)
 pub returns-in-Keyed : goal.returns-in-Keyed
 returns-in-Keyed c = search (measure_marker, rules)
 
-pub returns-in-Bytes : goal.returns-in-Bytes
-returns-in-Bytes c = search measure_rows
+pub returns-in_ok-size-in-Records : goal.returns-in_ok-size-in-Records
+returns-in_ok-size-in-Records c =
+    measure_rows _ (view_fields c.args.self) _ _ _ _ c.if-codec-ne0.false _ c.in-Records.is _ c.in_ok-size-in-Records.ensures
 
-pub returns-in-Refused : goal.returns-in-Refused
-returns-in-Refused c = search measure_refused
+pub returns-in_err-size-in-Records : goal.returns-in_err-size-in-Records
+returns-in_err-size-in-Records c =
+    measure_refused _ (view_fields c.args.self) _ _ _ _ c.if-codec-ne0.false _ c.in-Records.is _ c.in_err-size-in-Records.ensures _ c.from_residual.ensures.1

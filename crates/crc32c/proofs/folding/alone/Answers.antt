@@ -1,18 +1,18 @@
--- `crc32c::folding::alone` meets its contract: each turn stores one byte of the window. Assumes nothing.
-use Prim.Native.Nat.{◌+◌}
+-- `crc32c::folding::alone` meets its contract: the window is copied to the start of zeros. Assumes nothing.
 use native.Mathlib.Omega.{arith}
-use mathlib.Core.Path.{refl, ◌∙◌}
-use lib.Dec.{lit≤}
-use Rattle.crc32c.proofs.Stored.{stored_none, stored_more, stored_bytes, stored_window, zeros_at, zeros_bytes}
+use mathlib.Core.Path.{ap, ◌∙◌}
+use Prim.Native.Nat.{ℕ}
+use mathlib.Core.List.{List}
+use lib.ListN.{get_or}
+use Rattle.crc32c.proofs.Copied.{window_copied, zeros_behind, at_front}
 use Rattle.crc32c.proofs.folding.alone.Goals as goal
 
-pub loop-j-init : goal.loop-j-init
-loop-j-init c = stored_none (lit≤ tt) refl
+pub returns-clause-by_index : goal.returns-clause-by_index
+returns-clause-by_index c = λ i h. zeros_behind _ 209 418 i (omega arith)
 
-pub loop-j-preserved : goal.loop-j-preserved
-loop-j-preserved c = stored_more c.loop-j-test.true refl c.loop-j.invariant
-
-pub returns : goal.returns
-returns c =
-    let a = c.loop-j.invariant in
-    let k = c.args.k in record { bytes_2 = stored_bytes a (zeros_bytes 418) (λ i. c.requires.bytes (k + i)); result_value = stored_window _ k a c.loop-j-test.false; by_index = λ i h. a.others i (omega arith) ∙ zeros_at 418 i }
+pub returns-clause-result_value : goal.returns-clause-result_value
+returns-clause-result_value c =
+    let a = c.copy_from_slice.new.self in
+    let w = c.args.w.now in
+    let k = c.args.k in
+    window_copied a _ w k (omega arith) (λ i h. ap (λ (t : List ℕ). get_or t i 0) c.copy_from_slice.ensures.after ∙ at_front w k _ i (omega arith))

@@ -5,6 +5,6 @@ use Rattle.crc32c.specs.Crc.{bit_step, steps}
 use Rattle.crc32c.proofs.Halves.{is_table}
 use Rattle.crc32c.proofs.table.divide.Goals as goal
 
-pub divide_by-requires : goal.divide_by-requires
+pub invariant_of-divide : goal.invariant_of-divide
 unfolding steps bit_step
-divide_by-requires c = is_table _ tt refl
+invariant_of-divide c = record { right = is_table _ tt refl }

@@ -3,26 +3,14 @@ use mathlib.Core.Path.{refl}
 use borrow.Author.Rules.{rules}
 use lib.Dec.{lit≤}
 use mir.Syntax.{w16, w32, w64}
-use Rattle.numbers.proofs.Signs.{widen_fits, widen_back}
+use Rattle.numbers.proofs.Signs.{widen_back}
 use Rattle.batches.specs.Answers.{view_fields, view_kind}
 use Rattle.oddrafisk.proofs.Listed.{type_back, flag_back, kind_back, count_back, listed}
 use Rattle.oddrafisk.proofs.said.accepted.Goals as goal
 
-pub overflow_cast-result : goal.overflow_cast-result
-overflow_cast-result c = search (widen_fits w32 w64, rules, lit≤)
-
-pub overflow_cast-result-2 : goal.overflow_cast-result-2
-overflow_cast-result-2 c = search (widen_fits w32 w64, rules, lit≤)
-
-pub overflow_cast-result-3 : goal.overflow_cast-result-3
-overflow_cast-result-3 c = search (widen_fits w16 w64, rules, lit≤)
-
-pub overflow_cast-result-4 : goal.overflow_cast-result-4
-overflow_cast-result-4 c = search (widen_fits w32 w64, rules, lit≤)
-
 pub returns : goal.returns
-returns c = let wanted = c.requires in
+returns c = let wanted = c.requires in let b = c.args.found in
     listed (search rules) (search (widen_back w32 w64, rules, lit≤)) (search (widen_back w32 w64, rules, lit≤)) (search rules) (search rules) (search rules)
-    (search (widen_back w16 w64, rules, lit≤)) (search (widen_back w32 w64, rules, lit≤)) (type_back (view_fields c.args.batch).timestamp_type _ c.type_number.ensures)
-    (flag_back (view_fields c.args.batch).transactional _ c.flag.ensures) (kind_back (view_kind c.args.kind) _ c.kind_number.ensures)
+    (search (widen_back w16 w64, rules, lit≤)) (search (widen_back w32 w64, rules, lit≤)) (type_back (view_fields b.batch).timestamp_type _ c.type_number.ensures)
+    (flag_back b.batch.is_transactional _ c.from.ensures) (kind_back (view_kind b.kind) _ c.kind_number.ensures)
     (count_back _ _ c.record_count.ensures wanted.records) (count_back _ _ refl wanted.headers) (count_back _ _ refl wanted.bytes)

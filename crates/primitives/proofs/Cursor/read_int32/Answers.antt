@@ -1,16 +1,15 @@
 -- `primitives::Cursor::read_int32` meets its contract. Assumes nothing.
-use Rattle.std.proofs.Common.{lit≤, w32}
-use Rattle.primitives.proofs.Fields.{halved, narrowed, integer_got, integer_refused}
+use Rattle.std.proofs.Common.{arith, w32}
+use Rattle.primitives.specs.Reading.{big}
+use Rattle.primitives.proofs.Exits.{refused_only}
+use Rattle.primitives.proofs.Fields.{integer_got, integer_window}
 use Rattle.primitives.proofs.Cursor.read_int32.Goals as goal
 
-pub signed-requires : goal.signed-requires
-signed-requires c = search (halved w32, lit≤)
+pub returns-in_err-bytes : goal.returns-in_err-bytes
+returns-in_err-bytes c =
+    rw integer_window (refused_only _ _ _ _ c.from_residual.ensures.1 c.in_err-bytes.ensures)
 
-pub overflow_cast-result : goal.overflow_cast-result
-overflow_cast-result c = search (narrowed w32)
-
-pub returns-in-Got : goal.returns-in-Got
-returns-in-Got c = search (integer_got w32)
-
-pub returns-in-Refused : goal.returns-in-Refused
-returns-in-Refused c = search integer_refused
+pub returns : goal.returns
+unfolding big
+returns c =
+    integer_got w32 _ _ _ _ c.in_ok-bytes.ensures c.from_be_bytes.result c.from_be_bytes.type_inv _ c.from_be_bytes.ensures (omega arith)

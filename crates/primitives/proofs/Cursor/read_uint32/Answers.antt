@@ -1,12 +1,14 @@
 -- `primitives::Cursor::read_uint32` meets its contract. Assumes nothing.
-use Rattle.primitives.proofs.Fields.{unsigned_below, unsigned_got, unsigned_refused}
+use Rattle.std.proofs.Common.{arith, w32}
+use Rattle.primitives.specs.Reading.{big}
+use Rattle.primitives.proofs.Exits.{refused_only}
+use Rattle.primitives.proofs.Fields.{unsigned_got, unsigned_window}
 use Rattle.primitives.proofs.Cursor.read_uint32.Goals as goal
 
-pub overflow_cast-result : goal.overflow_cast-result
-overflow_cast-result c = record { fits = search (unsigned_below 4) }
+pub returns-in_err-bytes : goal.returns-in_err-bytes
+returns-in_err-bytes c =
+    rw unsigned_window (refused_only _ _ _ _ c.from_residual.ensures.1 c.in_err-bytes.ensures)
 
-pub returns-in-Got : goal.returns-in-Got
-returns-in-Got c = search unsigned_got
-
-pub returns-in-Refused : goal.returns-in-Refused
-returns-in-Refused c = search unsigned_refused
+pub returns : goal.returns
+unfolding big
+returns c = unsigned_got w32 _ _ _ _ c.in_ok-bytes.ensures c.from_be_bytes.result (omega (arith, c.from_be_bytes.ensures))

@@ -6,7 +6,7 @@ use Rattle.writing.proofs.Outcomes.{within}
 use Rattle.replay.proofs.answers.print_written.Goals as goal
 
 pub slice_bounds-output-end : goal.slice_bounds-output-end
-slice_bounds-output-end g c = omega (arith, within _ _ _ _ c.write.ensures.by c.in-Bytes.is)
+slice_bounds-output-end g c = omega (arith, within _ _ _ _ c.write.ensures.by c.in-Ok.is)
 
 pub slice_bounds-print_hexadecimal-end : goal.slice_bounds-print_hexadecimal-end
-slice_bounds-print_hexadecimal-end g c = simp length-take (omega (arith, within _ _ _ _ c.write.ensures.by c.in-Bytes.is))
+slice_bounds-print_hexadecimal-end g c = simp length-take (omega (arith, within _ _ _ _ c.write.ensures.by c.in-Ok.is))

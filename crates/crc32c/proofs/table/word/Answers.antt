@@ -1,7 +1,0 @@
--- `crc32c::table::word` meets its contract, by its four bytes. Assumes nothing.
-use borrow.Author.Rules.{rules}
-use Rattle.crc32c.proofs.Halves.{word_bytes}
-use Rattle.crc32c.proofs.table.word.Goals as goal
-
-pub returns : goal.returns
-returns c = search (word_bytes, rules)
