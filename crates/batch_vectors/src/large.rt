@@ -3,7 +3,7 @@
 use crate::times::batch;
 use crate::writer::{ACCEPTED, SHORT_OUTPUT, distance, is_answer};
 use batches::ControlBatchOrRecords;
-use cases::outputs::{blot, is_left};
+use cases::outputs::{blotted, is_left};
 use cases::tables::fill;
 use cases::text::words_from;
 use layout::{ControlMode, RecordBatchTimestampType};
@@ -56,15 +56,15 @@ fn is_written(mode: ControlMode, rows: Rows, number: i64, size: usize) -> bool {
     let source = [TAIL; SOURCE];
     put_records(&mut records, rows);
     put_headers(&mut headers, rows);
-    let mut output = [0u8; OUTPUT];
-    blot(&mut output);
+    let before: [u8; OUTPUT] = blotted();
+    let mut output = before;
     let kind = ControlBatchOrRecords::Records(distance(rows.records));
     let batch = batch(0, RecordBatchTimestampType::CreateTime);
     let measured = batch.measure(mode, 0, kind, &records, &headers, &source);
     let written = batch.write(mode, 0, kind, &records, &headers, &source, &mut output);
     is_answer(measured, number, size)
         && is_answer(written, written_number(number), 0)
-        && is_left(&output, 0, b"")
+        && is_left(&output, &before, 0, b"")
 }
 
 fn put_records(table: &mut [i64], rows: Rows) {

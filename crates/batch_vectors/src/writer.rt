@@ -2,7 +2,7 @@
 use asking::WriteFault;
 use batches::{ControlBatchOrRecords, RecordBatch};
 use canonical::canonical_records;
-use cases::outputs::{blot, is_left};
+use cases::outputs::{blotted, is_left};
 use cases::tables::{MOST, fill};
 use cases::text::{hexadecimal, split_at_bar, word, words_from};
 use layout::{ControlMode, RecordBatchTimestampType};
@@ -18,6 +18,9 @@ pub const SHORT_OUTPUT: i64 = 24;
 const LONGEST: usize = 256;
 
 const SPARE: usize = 100;
+
+// How many bytes an output has.
+const OUTPUT: usize = LONGEST + SPARE;
 
 // How many numbers a case has before its tables. Of a batch: codec, kind, count of records, ten fields, and document
 // 01's number. Of records: the first header row, their count, the place where they are written, and document 01's
@@ -242,22 +245,22 @@ impl Case<'_> {
     }
 
     fn fills_every_room(&self) -> bool {
-        let mut output = [0u8; LONGEST + SPARE];
-        (0..=self.bytes.len() + SPARE).all(|room| self.fills(&mut output, room))
+        let before: [u8; OUTPUT] = blotted();
+        (0..=self.bytes.len() + SPARE).all(|room| self.fills(before, room))
     }
 
     // Whether the output holds just the bytes that are expected where there is room for them, and else is as it was.
-    fn fills(&self, output: &mut [u8], room: usize) -> bool {
-        blot(output);
+    fn fills(&self, before: [u8; OUTPUT], room: usize) -> bool {
+        let mut output = before;
         let Some(space) = output.get_mut(..room) else {
             return false;
         };
         let written = self.write(space);
         if self.number == ACCEPTED && !self.has_room(room) {
-            return is_answer(written, SHORT_OUTPUT, 0) && is_left(output, 0, b"");
+            return is_answer(written, SHORT_OUTPUT, 0) && is_left(&output, &before, 0, b"");
         }
         is_answer(written, self.number, self.bytes.len())
-            && is_left(output, self.start(), self.bytes)
+            && is_left(&output, &before, self.start(), self.bytes)
     }
 
     fn has_room(&self, room: usize) -> bool {
@@ -280,12 +283,12 @@ fn batch_comes_back(mode: ControlMode, bytes: &[u8]) -> bool {
     let Ok(found) = RecordBatch::read(mode, bytes, &mut records, &mut headers) else {
         return false;
     };
-    let mut output = [0u8; LONGEST];
-    blot(&mut output);
+    let before: [u8; LONGEST] = blotted();
+    let mut output = before;
     let batch = found.batch;
     let w = batch.write(mode, 0, found.kind, &records, &headers, bytes, &mut output);
     found.consumed == bytes.len()
         && RecordBatch::is_canonical(mode, bytes)
         && is_answer(w, ACCEPTED, bytes.len())
-        && is_left(&output, 0, bytes)
+        && is_left(&output, &before, 0, bytes)
 }

@@ -1,5 +1,5 @@
 // The conversion: what is answered, and every byte of the output afterwards.
-use cases::outputs::{blot, is_left};
+use cases::outputs::{blotted, is_left};
 use cases::text::{hexadecimal, unsigned, word, words};
 use converting::{Conversion, ConvertError, convert};
 
@@ -41,10 +41,10 @@ pub fn agrees(s: &[u8], line: &[u8]) -> Option<bool> {
 
 // Whether the output holds just the bytes that are expected, and else is as it was, beyond its room too.
 fn converts(s: &[u8], room: usize, expected: Answer, bytes: &[u8]) -> Option<bool> {
-    let mut output = [0u8; LONGEST];
-    blot(&mut output);
+    let before: [u8; LONGEST] = blotted();
+    let mut output = before;
     let converted = convert(s, output.get_mut(..room)?);
-    Some(is_answer(converted, expected) && is_left(&output, 0, bytes))
+    Some(is_answer(converted, expected) && is_left(&output, &before, 0, bytes))
 }
 
 fn is_answer(c: Result<Conversion, ConvertError>, expected: Answer) -> bool {
