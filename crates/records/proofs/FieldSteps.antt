@@ -15,13 +15,15 @@ use Rattle.records.specs.declared.Place.{Place}
 use Rattle.records.specs.Judgement.{present, count_at, bytes_at, key_at, header_at, Deltas, deltas_at, head_at}
 use Rattle.records.specs.Rows.{span_row, header_row}
 use Rattle.records.specs.Answers.{place_row, Heading, heading_of}
-use Rattle.records.specs.Parts.{bytes_row, SaysSpan}
+use Rattle.records.specs.Parts.{bytes_row}
+use Rattle.records.specs.Promises.{FromNullablePromise}
+use Rattle.records.proofs.Places.{in_memory}
 
 -- ---- a key or a value
 
 pub place_is : (nullable : Bool) (s : List ℕ) (at : ℕ) (x : Option declared.Span) {q : ℕ} → ok (view_nullable span_as_read x) q ≡ span_at nullable s at
-    → length s < 2 ^ 63 → (y : Place) → SaysSpan x y → ok (place_row y) q ≡ map_step span_row (span_at nullable s at)
-place_is nullable s at (Some x) e small y says = rw (← e, says (omega (arith, span_ends nullable s at (sym e))))
+    → length s < 2 ^ 63 → (y : Place) → FromNullablePromise x y → ok (place_row y) q ≡ map_step span_row (span_at nullable s at)
+place_is nullable s at (Some x) e small y says = rw (← e, in_memory x y (omega (arith, span_ends nullable s at (sym e))) says)
 place_is nullable s at None e small y says = rw (← e, says)
 
 -- where null is not allowed, the row is that of the bytes

@@ -13,6 +13,7 @@ pub mod KeyFaults
 pub mod Keys
 pub mod Nth
 pub mod Parts
+pub mod Places
 mod Presence
 pub mod RecordFaults
 pub mod RecordMoves

@@ -1,8 +1,10 @@
 -- Each promise admits a single answer: from what the answer says it can be made again. Assumes nothing.
-use Rattle.std.proofs.Common.{◌≡◌, ℕ, suc, eqb, List, get_or, ℤ, pos, refl}
+use Rattle.std.proofs.Common.{◌≡◌, ℕ, suc, eqb, List, get_or, ℤ, pos, refl, Option, Some, None}
 use Rattle.numbers.specs.Pick.{pick}
 use Rattle.numbers.specs.Single.{Single}
-use Rattle.numbers.proofs.Single.{single_value}
+use Rattle.numbers.proofs.Single.{single_value, single_view}
+use Rattle.primitives.specs.declared.Span.{Span}
+use Rattle.primitives.specs.declared.Fault.{Fault}
 use Rattle.primitives.specs.declared.Fault.TheVariants.{PastEnd, BeyondLimits, NegativeLength}
 use Rattle.primitives.proofs.Single.{single_read_by, single_read_of}
 use Rattle.records.specs.declared.RecordFault.{RecordFault}
@@ -10,11 +12,14 @@ use Rattle.records.specs.declared.RecordFault.TheVariants.{Field, KeyNotUtf8, By
 use Rattle.records.specs.declared.Place.{Place}
 use Rattle.records.specs.declared.RecordHeader.{RecordHeader}
 use Rattle.records.specs.declared.Record.{Record}
-use Rattle.records.specs.Answers.{record_number_of, view_header, Heading, view_record}
-use Rattle.records.specs.Promises.{RecordNumberPromise, ReadCountPromise, ReadHeaderPromise, ReadRecordPromise}
+use Rattle.records.specs.Answers.{record_number_of, place_row, view_header, Heading, view_record}
+use Rattle.records.specs.Promises.{RecordNumberPromise, FromFaultPromise, FromSpanPromise, FromNullablePromise, ReadCountPromise, ReadHeaderPromise, ReadRecordPromise}
 
 pub single_record_number : (f : RecordFault) → Single (RecordNumberPromise f)
 single_record_number f = single_value _
+
+pub single_from_fault : (f : Fault) → Single (FromFaultPromise f)
+single_from_fault f = single_value _
 
 -- ---- an answer, made from what it says
 
@@ -48,6 +53,16 @@ single_read_count s at = single_read_of (λ (n : ℕ). n) (λ n. n) (λ n. refl)
 -- the place that two numbers of a row say, from number k on
 abbrev place_of : List ℤ → ℕ → Place
 place_of row k = record { start = get_or row k (pos 0); len = get_or row (suc k) (pos 0) }
+
+single_place : (row : List ℤ) → Single (λ (y : Place). place_row y ≡ row)
+single_place = single_view place_row (λ row. place_of row 0) (λ y. refl)
+
+pub single_from_span : (x : Span) → Single (FromSpanPromise x)
+single_from_span x = single_place _
+
+pub single_from_nullable : (x : Option Span) → Single (FromNullablePromise x)
+single_from_nullable (Some x) = single_from_span x
+single_from_nullable None = single_place _
 
 abbrev header_of : List ℤ → RecordHeader
 header_of row = record { key = place_of row 0; value = place_of row 2 }

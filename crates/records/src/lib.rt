@@ -4,13 +4,12 @@
 ghost use Rattle.std.specs.Prelude.{◌≡◌};
 ghost use Rattle.primitives.specs.Step.{map_step};
 ghost use Rattle.primitives.specs.Reading.{span_at};
-ghost use Rattle.primitives.specs.Answers.{number_of, view_read, span_as_read};
-ghost use Rattle.records.specs.declared.RecordFault.TheVariants.{Field};
+ghost use Rattle.primitives.specs.Answers.{number_of, view_read};
 ghost use Rattle.records.specs.Judgement.{key_at, deltas_at};
 ghost use Rattle.records.specs.Rows.{span_row};
 ghost use Rattle.records.specs.Answers.{record_number_of, place_row};
-ghost use Rattle.records.specs.Parts.{bytes_row, view_deltas, InMemory, SaysSpan};
-ghost use Rattle.records.specs.Promises.{RecordNumberPromise, ReadCountPromise, ReadHeaderPromise, ReadRecordPromise};
+ghost use Rattle.records.specs.Parts.{bytes_row, view_deltas};
+ghost use Rattle.records.specs.Promises.{RecordNumberPromise, FromFaultPromise, FromSpanPromise, FromNullablePromise, ReadCountPromise, ReadHeaderPromise, ReadRecordPromise};
 
 use primitives::{Cursor, Fault, Span};
 use utf8::is_utf8;
@@ -65,17 +64,18 @@ impl RecordFault {
 }
 
 impl From<Fault> for RecordFault {
-    ghost from_gives = { λ f r. r ≡ Field f };
+    ghost from_gives = { FromFaultPromise };
 
     fn from(f: Fault) -> RecordFault {
         RecordFault::Field(f)
     }
 }
 
-// Bytes in memory end below 2 to the 63rd.
+// Bytes in memory end below 2 to the 63rd, so that both numbers are themselves.
 impl From<Span> for Place {
-    ghost from_gives = { λ x y. InMemory x → place_row y ≡ bytes_row (span_as_read x) };
+    ghost from_gives = { FromSpanPromise };
 
+    #[tactic(auto, using(crate::proofs::Places::cast_is))]
     fn from(x: Span) -> Place {
         Place {
             start: x.start.cast_signed() as i64,
@@ -85,7 +85,7 @@ impl From<Span> for Place {
 }
 
 impl From<Option<Span>> for Place {
-    ghost from_gives = { SaysSpan };
+    ghost from_gives = { FromNullablePromise };
 
     fn from(x: Option<Span>) -> Place {
         match x {
