@@ -12,7 +12,10 @@ use Rattle.reading.specs.declared.RecordsFound.{RecordsFound}
 use Rattle.reading.specs.declared.RecordsError.{RecordsError}
 use Rattle.reading.specs.declared.RecordsError.TheVariants.{Refused, NoRoom}
 use Rattle.reading.specs.Answers.{Counts, view_check, Answer, view_read}
-use Rattle.reading.specs.Promises.{CheckRecordsPromise, ReadRecordsPromise}
+use Rattle.reading.specs.Promises.{FromRecordFaultPromise, CheckRecordsPromise, ReadRecordsPromise}
+
+pub single_from_record_fault : (f : RecordFault) → Single (FromRecordFaultPromise f)
+single_from_record_fault f = single_value _
 
 abbrev checked : Step ℕ Counts → Result RecordsFound RecordFault
 checked (ok n q) = Ok (record { records = n.records; headers = n.headers; end = q })

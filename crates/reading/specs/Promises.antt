@@ -10,6 +10,10 @@ use Rattle.reading.specs.declared.RecordsFound.{RecordsFound}
 use Rattle.reading.specs.declared.RecordsError.{RecordsError}
 use Rattle.reading.specs.Answers.{Answer, accepted, no_room, refused, counts_of, view_check, view_read}
 
+-- RecordsError::from a fault of records
+abbrev pub FromRecordFaultPromise : RecordFault → RecordsError → Type 0
+FromRecordFaultPromise f r = r ≡ RecordsError.Refused f
+
 -- check_records, on bytes s, a place and a number of records
 abbrev pub CheckRecordsPromise : List ℕ → ℕ → ℕ → Result RecordsFound RecordFault → Type 0
 CheckRecordsPromise s at count r = view_check r ≡ map_step counts_of (records_at s count at)

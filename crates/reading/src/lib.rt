@@ -8,9 +8,8 @@ ghost use Rattle.primitives.specs.Step.{map_step, times};
 ghost use Rattle.records.specs.Judgement.{header_at, fields_at, record_at, run_at};
 ghost use Rattle.records.specs.Rows.{tables};
 ghost use Rattle.records.specs.Answers.{place_row, view_header};
-ghost use Rattle.reading.specs.declared.RecordsError.TheVariants.{Refused};
 ghost use Rattle.reading.specs.Walk.{put, put_headers, walked_record, walked_records, view_filled, view_walk};
-ghost use Rattle.reading.specs.Promises.{CheckRecordsPromise, ReadRecordsPromise};
+ghost use Rattle.reading.specs.Promises.{FromRecordFaultPromise, CheckRecordsPromise, ReadRecordsPromise};
 
 use primitives::{Cursor, Fault};
 use records::{Record, RecordFault, RecordHeader, read_count};
@@ -31,7 +30,7 @@ pub enum RecordsError {
 }
 
 impl From<RecordFault> for RecordsError {
-    ghost from_gives = { λ f r. r ≡ Refused f };
+    ghost from_gives = { FromRecordFaultPromise };
 
     fn from(f: RecordFault) -> RecordsError {
         RecordsError::Refused(f)
