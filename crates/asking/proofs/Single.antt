@@ -6,6 +6,7 @@ use mathlib.Core.List.{List}
 use lib.Dec.{eqb}
 use lib.IntN.{ℤ}
 use Rattle.std.proofs.Common as std
+use Rattle.std.specs.declared.num.TryFromIntError.{TryFromIntError}
 use Rattle.std.proofs.Common.{Result, Ok, Err, Some, None}
 use Rattle.primitives.specs.declared.Span as declared
 use Rattle.numbers.specs.Pick.{pick}
@@ -19,10 +20,13 @@ use Rattle.asking.specs.declared.WriteFault.{WriteFault}
 use Rattle.asking.specs.declared.AskedHeader.{AskedHeader}
 use Rattle.asking.specs.declared.AskedRecord.{AskedRecord}
 use Rattle.asking.specs.Answers.{write_number_of, span_of, header_of, head_of, view_answer}
-use Rattle.asking.specs.Promises.{WriteNumberPromise, HeaderAskedPromise, RecordAskedPromise}
+use Rattle.asking.specs.Promises.{WriteNumberPromise, FromIntErrorPromise, HeaderAskedPromise, RecordAskedPromise}
 
 pub single_write_number : (f : WriteFault) → Single (WriteNumberPromise f)
 single_write_number f = single_value _
+
+pub single_from_int_error : (e : TryFromIntError) → Single (FromIntErrorPromise e)
+single_from_int_error e = single_value _
 
 -- ---- a fault, made from its number
 

@@ -1,6 +1,7 @@
 -- What each public function promises of its result, for every input. Lent bytes and tables are lent to be read: no
 -- function here can change them.
 use Rattle.std.specs.Prelude.{ℕ, ◌+◌, ◌≡◌, List, ℤ, Result}
+use Rattle.std.specs.declared.num.TryFromIntError.{TryFromIntError}
 use Rattle.records.specs.Rows.{Tables}
 use Rattle.asking.specs.declared.WriteFault.{WriteFault}
 use Rattle.asking.specs.declared.AskedHeader.{AskedHeader}
@@ -11,6 +12,10 @@ use Rattle.asking.specs.Answers.{write_number_of, header_of, head_of, view_answe
 -- WriteFault::number
 abbrev pub WriteNumberPromise : WriteFault → ℕ → Type 0
 WriteNumberPromise f r = r ≡ write_number_of f
+
+-- WriteFault::from what a number is that its type does not hold
+abbrev pub FromIntErrorPromise : TryFromIntError → WriteFault → Type 0
+FromIntErrorPromise e f = f ≡ WriteFault.Row
 
 -- header_asked, on a table of headers, a source s and a row; the next row is after it
 abbrev pub HeaderAskedPromise : List ℤ → List ℕ → ℕ → Result AskedHeader WriteFault → Type 0

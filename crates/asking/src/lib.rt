@@ -6,7 +6,7 @@ ghost use Rattle.primitives.specs.Answers.{span_as_read};
 ghost use Rattle.records.specs.Rows.{tables};
 ghost use Rattle.asking.specs.Asked.{asked_bytes, asked_nullable, asked_count, header_asked, head_asked};
 ghost use Rattle.asking.specs.Answers.{span_of, header_of, head_of, view_answer};
-ghost use Rattle.asking.specs.Promises.{WriteNumberPromise, HeaderAskedPromise, RecordAskedPromise};
+ghost use Rattle.asking.specs.Promises.{WriteNumberPromise, FromIntErrorPromise, HeaderAskedPromise, RecordAskedPromise};
 
 use primitives::Span;
 use records::{Record, RecordHeader};
@@ -60,9 +60,7 @@ impl WriteFault {
 
 // A number that its type does not hold makes the row wrong.
 impl From<TryFromIntError> for WriteFault {
-    ghost use Rattle.asking.specs.declared.WriteFault.{WriteFault};
-
-    ghost from_gives = { λ _ f. f ≡ WriteFault.Row };
+    ghost from_gives = { FromIntErrorPromise };
 
     fn from(_: TryFromIntError) -> WriteFault {
         WriteFault::Row
