@@ -1,5 +1,5 @@
 -- What a marker is written as, what the answers say, and what the place of a key shows.
-use Rattle.std.specs.Prelude.{ℕ, Result, ◌≡◌, List, ◌++◌, ℤ, pos, negsuc, nat_abs}
+use Rattle.std.specs.Prelude.{ℕ, ◌≡◌, List, ◌++◌, ℤ, pos, negsuc, nat_abs}
 use Rattle.std.proofs.Math.Option.{Option, none, some}
 use Rattle.numbers.specs.Format.{big_endian}
 use Rattle.primitives.specs.Reading.{Span}
@@ -7,9 +7,6 @@ use Rattle.records.specs.declared.Place.{Place}
 use Rattle.records.specs.Inside.{NullableInside}
 use Rattle.layout.specs.Batch.{Marker, abort, commit}
 use Rattle.layout.specs.Format.{marker_type}
-use Rattle.opening.specs.declared.BatchFault.{BatchFault}
-use Rattle.opening.specs.Answers.{view_made}
-use Rattle.opening.specs.Judgement.{marker_of}
 use Rattle.markers.specs.declared.ControlBatchRecord.{ControlBatchRecord}
 
 -- Kafka, message format, control batch: version 0, then the type
@@ -19,10 +16,6 @@ written_marker m = big_endian 2 0 ++ big_endian 2 (marker_type m)
 abbrev pub view_marker : ControlBatchRecord → Marker
 view_marker ControlBatchRecord.Abort = abort
 view_marker ControlBatchRecord.Commit = commit
-
--- document 01, Reader's numbers, 12: a marker, by its type
-abbrev pub Typed : ℤ → Result ControlBatchRecord BatchFault → Type 0
-Typed t r = (p : ℕ) → view_made view_marker p r ≡ marker_of t p
 
 -- what a place of a row shows, from its start and its length: nothing where the length is negative
 abbrev pub shown_from : ℤ → ℤ → Option Span

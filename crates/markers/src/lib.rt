@@ -8,9 +8,9 @@ ghost use Rattle.primitives.specs.Stands.{Stands};
 ghost use Rattle.layout.specs.declared.ControlMode.{ControlMode};
 ghost use Rattle.opening.specs.Answers.{batch_number_of};
 ghost use Rattle.opening.specs.Judgement.{marker_in_key, keyed_marker_at};
-ghost use Rattle.markers.specs.Markers.{view_marker, Typed, key_of, KeyPlace};
+ghost use Rattle.markers.specs.Markers.{view_marker, key_of, KeyPlace};
 ghost use Rattle.markers.specs.Forms.{written_control};
-ghost use Rattle.markers.specs.Promises.{ReadMarkerPromise, ReadBarePromise, StandsPromise, PutMarkerPromise};
+ghost use Rattle.markers.specs.Promises.{FromTypePromise, ReadMarkerPromise, ReadBarePromise, StandsPromise, PutMarkerPromise};
 
 use layout::ControlMode;
 use numbers::put;
@@ -30,7 +30,7 @@ pub enum ControlBatchRecord {
 impl TryFrom<i16> for ControlBatchRecord {
     type Error = BatchFault;
 
-    ghost try_from_gives = { Typed };
+    ghost try_from_gives = { FromTypePromise };
 
     fn try_from(t: i16) -> Result<ControlBatchRecord, BatchFault> {
         match t {

@@ -4,6 +4,7 @@ use mathlib.Core.Path.{◌≡◌, refl, ap}
 use mathlib.Core.List.{List}
 use lib.Dec.{eqb}
 use Rattle.std.proofs.Common.{Result, Ok, Err}
+use Rattle.primitives.specs.declared.Fault.{Fault}
 use Rattle.primitives.specs.declared.Fault.TheVariants.{PastEnd, BeyondLimits, NegativeLength}
 use Rattle.numbers.specs.Pick.{pick}
 use Rattle.numbers.specs.Single.{Single}
@@ -17,10 +18,19 @@ use Rattle.opening.specs.declared.OpenError.{OpenError}
 use Rattle.opening.specs.Judgement.{Judged, more, refused, accepted}
 use Rattle.opening.specs.Opened.{KnownAt}
 use Rattle.opening.specs.Answers.{batch_number_of, view_judged, view_known_at}
-use Rattle.opening.specs.Promises.{BatchNumberPromise, OpenAtPromise}
+use Rattle.opening.specs.Promises.{BatchNumberPromise, FromFaultPromise, FromRecordFaultPromise, FromBatchFaultPromise, OpenAtPromise}
 
 pub single_batch_number : (f : BatchFault) → Single (BatchNumberPromise f)
 single_batch_number f = single_value _
+
+pub single_from_fault : (f : Fault) → Single (FromFaultPromise f)
+single_from_fault f = single_value _
+
+pub single_from_record_fault : (f : RecordFault) → Single (FromRecordFaultPromise f)
+single_from_record_fault f = single_value _
+
+pub single_from_batch_fault : (f : BatchFault) → Single (FromBatchFaultPromise f)
+single_from_batch_fault f = single_value _
 
 -- ---- a fault, made from its number
 

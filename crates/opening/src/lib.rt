@@ -8,14 +8,11 @@ ghost use Rattle.crc32c.specs.Crc.{crc32c as sum_of};
 ghost use Rattle.layout.specs.Table.{table};
 ghost use Rattle.layout.specs.Batch.{create_time, log_append_time};
 ghost use Rattle.layout.specs.Fixed.{view_type};
-ghost use Rattle.records.specs.declared.RecordFault.TheVariants.{Field};
-ghost use Rattle.opening.specs.declared.BatchFault.TheVariants.{Body};
-ghost use Rattle.opening.specs.declared.OpenError.TheVariants.{Refused};
 ghost use Rattle.opening.specs.Judgement.{unsigned_in};
 ghost use Rattle.opening.specs.Opened.{known_at};
 ghost use Rattle.opening.specs.Opening.{lead_at, version_at, frame_at, Coded, view_attributes, SaysAttributes, attributes_at, times_at, producer_at, count_at, checked_at, opening_at, view_open};
 ghost use Rattle.opening.specs.Answers.{batch_number_of, view_judged};
-ghost use Rattle.opening.specs.Promises.{BatchNumberPromise, OpenAtPromise};
+ghost use Rattle.opening.specs.Promises.{BatchNumberPromise, FromFaultPromise, FromRecordFaultPromise, FromBatchFaultPromise, OpenAtPromise};
 
 use crc32c::crc32c;
 use layout::{BatchFields, Producer, RecordBatchTimestampType, Times};
@@ -97,7 +94,7 @@ pub enum OpenError {
 }
 
 impl From<Fault> for BatchFault {
-    ghost from_gives = { λ f r. r ≡ Body (Field f) };
+    ghost from_gives = { FromFaultPromise };
 
     fn from(f: Fault) -> BatchFault {
         BatchFault::Body(RecordFault::Field(f))
@@ -105,7 +102,7 @@ impl From<Fault> for BatchFault {
 }
 
 impl From<RecordFault> for BatchFault {
-    ghost from_gives = { λ f r. r ≡ Body f };
+    ghost from_gives = { FromRecordFaultPromise };
 
     fn from(f: RecordFault) -> BatchFault {
         BatchFault::Body(f)
@@ -113,7 +110,7 @@ impl From<RecordFault> for BatchFault {
 }
 
 impl From<BatchFault> for OpenError {
-    ghost from_gives = { λ f r. r ≡ Refused f };
+    ghost from_gives = { FromBatchFaultPromise };
 
     fn from(f: BatchFault) -> OpenError {
         OpenError::Refused(f)
