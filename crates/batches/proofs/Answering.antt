@@ -28,10 +28,10 @@ use Rattle.layout.specs.declared.ControlMode.{ControlMode}
 use Rattle.batches.specs.declared.RecordBatch.{RecordBatch}
 use Rattle.batches.specs.declared.BatchFound.{BatchFound}
 use Rattle.batches.specs.declared.ReadError.{ReadError}
-use Rattle.batches.specs.Answers.{Answer, of_records, of_marker, accepts, wants, refuses, view_fields, answer_with_room}
+use Rattle.batches.specs.Answers.{Answer, of_records, of_marker, accepts, wants, refuses, view_fields, error_of_opening, error_of_records, answer_with_room}
 use Rattle.batches.specs.Answers as Answers
 use Rattle.batches.specs.Promises.{ReadOutcome, ReadBy, ReadBodyPromise}
-use Rattle.batches.specs.Reading.{error_of_opening, error_of_records, check_of_records_read}
+use Rattle.batches.specs.Reading.{check_of_records_read}
 use Rattle.batches.proofs.Storing.{checks, read_of, reads}
 
 -- what was opened

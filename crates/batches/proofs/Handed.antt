@@ -25,13 +25,12 @@ use Rattle.batches.specs.declared.BatchFound.{BatchFound}
 use Rattle.opening.specs.declared.OpenError.{OpenError}
 use Rattle.batches.specs.Answers.{view_fields, view_check, answer_with_room}
 use Rattle.batches.specs.Writer.{view_wanted, batch_given}
-use Rattle.batches.specs.Promises.{CheckPromise, ReadOutcome, ReadBy, ReadPromise, WritePromise}
-use Rattle.batches.specs.Reading.{Laid}
+use Rattle.batches.specs.Promises.{FromRecordBatchPromise, CheckPromise, ReadOutcome, ReadBy, ReadPromise, WritePromise}
 
 pub total_same : (n : ℤ) → SFits w32 n → (r : ℤ) → r ≡ pos uncounted +ℤ to_z w32 (of_z w32 n) → r ≡ pos uncounted +ℤ n
 total_same n fits r e = e ∙ ap (λ (y : ℤ). pos uncounted +ℤ y) (to_z-of_z w32 n fits)
 
-pub time_same : (b : RecordBatch) (y : BatchFields) → Laid b y → (delta : ℤ) → SFits w64 delta → (r : Option ℤ) → view_time r ≡ record_time (view_batch_fields y) (to_z w64 (of_z w64 delta))
+pub time_same : (b : RecordBatch) (y : BatchFields) → FromRecordBatchPromise b y → (delta : ℤ) → SFits w64 delta → (r : Option ℤ) → view_time r ≡ record_time (view_batch_fields y) (to_z w64 (of_z w64 delta))
     → view_time r ≡ record_time (view_fields b) delta
 time_same b y laid delta fits r e = e ∙ (λ i. record_time (laid.same i) (to_z-of_z w64 delta fits i))
 
@@ -49,7 +48,7 @@ module _ (s : List ℕ) (fits : (i : ℕ) → Fits w8 (get_or s i 0)) where
   read_lent mode t o e = record { lent = bytes_are; by = e }
 
   -- what is written by the fields as they are laid out
-  pub write_handed : (mode : ControlMode) (b : RecordBatch) (x : BatchFields) → Laid b x → (codec : ℕ) (kind : ControlBatchOrRecords) (t : Tables) (out : List ℕ)
+  pub write_handed : (mode : ControlMode) (b : RecordBatch) (x : BatchFields) → FromRecordBatchPromise b x → (codec : ℕ) (kind : ControlBatchOrRecords) (t : Tables) (out : List ℕ)
       (o : WriteOutcome) → WriteBy (batch_given mode (view_batch_fields x) codec (view_wanted kind) t s) 0 out o
       → WritePromise mode b codec kind t s out o
   write_handed mode b x laid codec kind t out o w =

@@ -9,12 +9,15 @@ use denote.Ref.{Bor}
 use Rattle.numbers.specs.Single.{Single}
 use Rattle.numbers.proofs.Single.{single_value, single_view, single_exactly}
 use Rattle.records.specs.Rows.{Tables}
+use Rattle.reading.specs.declared.RecordsError.{RecordsError}
 use Rattle.reading.proofs.Single.{single_read_records}
 use Rattle.writing.proofs.Single.{single_written, single_write_by}
 use Rattle.layout.specs.declared.RecordBatchTimestampType.{RecordBatchTimestampType}
+use Rattle.layout.specs.declared.BatchFields.{BatchFields}
 use Rattle.layout.specs.Batch.{Fields}
+use Rattle.layout.specs.Fixed.{view_batch_fields}
 use Rattle.layout.specs.Time.{view_time}
-use Rattle.layout.proofs.Single.{timestamp_type, type_again, time, time_again}
+use Rattle.layout.proofs.Single.{timestamp_type, type_again, fields, fields_again, time, time_again}
 use Rattle.opening.specs.Judgement.{Judgement, judge}
 use Rattle.opening.proofs.Single.{refusal, refusal_again}
 use Rattle.markers.proofs.Single.{marker, marker_again}
@@ -27,7 +30,16 @@ use Rattle.batches.specs.declared.ReadError.{ReadError}
 use Rattle.opening.specs.declared.OpenError.{OpenError}
 use Rattle.std.specs.Prelude.{Result, Ok, Err}
 use Rattle.batches.specs.Answers.{Kind, of_records, of_marker, Answer, view_fields, view_kind, view_count, view_check, view_read}
-use Rattle.batches.specs.Promises.{TotalSizePromise, CheckPromise, ReadBy, ReadPromise, BodyReaderPromise, ReadBodyPromise, ReadHeldPromise, RecordCountPromise, RecordTimePromise, MeasurePromise, WritePromise, Canonical, CanonicalPromise}
+use Rattle.batches.specs.Promises.{FromOpenErrorPromise, FromRecordsErrorPromise, FromRecordBatchPromise, FromBatchFieldsPromise, TotalSizePromise, CheckPromise, ReadBy, ReadPromise, BodyReaderPromise, ReadBodyPromise, ReadHeldPromise, RecordCountPromise, RecordTimePromise, MeasurePromise, WritePromise, Canonical, CanonicalPromise}
+
+pub single_from_open_error : (e : OpenError) → Single (FromOpenErrorPromise e)
+single_from_open_error e = single_value _
+
+pub single_from_records_error : (e : RecordsError) → Single (FromRecordsErrorPromise e)
+single_from_records_error e = single_value _
+
+pub single_from_record_batch : (b : RecordBatch) → Single (FromRecordBatchPromise b)
+single_from_record_batch b x x' e e' = single_view view_batch_fields fields fields_again _ x x' e.same e'.same
 
 pub single_total_size : (n : ℤ) → Single (TotalSizePromise n)
 single_total_size n = single_value _
@@ -54,6 +66,9 @@ batch x = batch_of x (timestamp_type x.timestamp_type)
 
 batch_again : (b : RecordBatch) → batch (view_fields b) ≡ b
 batch_again b = ap (batch_of (view_fields b)) (type_again b.timestamp_type)
+
+pub single_from_batch_fields : (x : BatchFields) → Single (FromBatchFieldsPromise x)
+single_from_batch_fields x = single_view view_fields batch batch_again _
 
 abbrev kind : Kind → ℕ → ControlBatchOrRecords
 kind of_records n = ControlBatchOrRecords.Records n

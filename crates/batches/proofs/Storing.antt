@@ -26,9 +26,9 @@ use Rattle.opening.specs.Opened.{judged_as}
 use Rattle.batches.specs.declared.RecordBatch.{RecordBatch}
 use Rattle.batches.specs.declared.BatchFound.{BatchFound}
 use Rattle.batches.specs.declared.ReadError.{ReadError}
-use Rattle.batches.specs.Answers.{of_records, accepts, refuses, lacks_room, view_fields, view_check, rooms_of, has_room, answer_with_room, answer_of, tables_of}
+use Rattle.batches.specs.Answers.{of_records, accepts, refuses, lacks_room, view_fields, view_check, error_of_records, rooms_of, has_room, answer_with_room, answer_of, tables_of}
 use Rattle.batches.specs.Promises.{ReadBy}
-use Rattle.batches.specs.Reading.{found_records, error_of_records, check_of_records_read}
+use Rattle.batches.specs.Reading.{found_records, check_of_records_read}
 
 pub room_is : (first : ℕ) (rs : List RecordSpans) (t : Tables) → has_room (records rs) first (rooms_of t) ≡ roomy first rs t
 unfolding roomy

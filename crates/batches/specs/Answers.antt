@@ -4,8 +4,10 @@ use Rattle.std.proofs.Math.Option.{Option, none, some}
 use Rattle.numbers.specs.Pick.{pick}
 use Rattle.records.specs.Judgement.{RecordSpans}
 use Rattle.records.specs.Rows.{headers_in, Tables, enough_rows, with_rows}
+use Rattle.reading.specs.declared.RecordsError.{RecordsError}
 use Rattle.layout.specs.Batch.{Fields, Marker, Content, control, records}
 use Rattle.layout.specs.Fixed.{view_type}
+use Rattle.opening.specs.declared.BatchFault.{BatchFault}
 use Rattle.opening.specs.declared.OpenError.{OpenError}
 use Rattle.opening.specs.Answers.{batch_number_of}
 use Rattle.opening.specs.Judgement.{Judgement, more, refused, accepted, Accepted}
@@ -88,6 +90,16 @@ view_read (Ok x) = view_found x
 view_read (Err (ReadError.MoreBytes bytes)) = wants bytes
 view_read (Err (ReadError.Refused f)) = refuses (batch_number_of f)
 view_read (Err (ReadError.NoRoom n m)) = lacks_room n m
+
+-- ---- what is an error of a part is one of the whole
+
+abbrev pub error_of_opening : OpenError → ReadError
+error_of_opening (OpenError.MoreBytes n) = ReadError.MoreBytes n
+error_of_opening (OpenError.Refused f) = ReadError.Refused f
+
+abbrev pub error_of_records : RecordsError → ReadError
+error_of_records (RecordsError.Refused f) = ReadError.Refused (BatchFault.Body f)
+error_of_records (RecordsError.NoRoom n m) = ReadError.NoRoom n m
 
 -- ---- what a judgement has answered
 

@@ -6,11 +6,14 @@ use Rattle.std.specs.Borrow.{Bor}
 use Rattle.numbers.specs.Bytes.{Bytes}
 use Rattle.numbers.specs.Exactly.{Exactly}
 use Rattle.records.specs.Rows.{Tables}
+use Rattle.reading.specs.declared.RecordsError.{RecordsError}
 use Rattle.reading.specs.Promises.{ReadOutcome as RecordsOutcome, ReadRecordsPromise}
 use Rattle.asking.specs.declared.WriteFault.{WriteFault}
 use Rattle.writing.specs.Answers.{given, view_written, measured}
 use Rattle.writing.specs.Promises.{WriteOutcome, WriteBy}
+use Rattle.layout.specs.declared.BatchFields.{BatchFields}
 use Rattle.layout.specs.declared.ControlMode.{ControlMode}
+use Rattle.layout.specs.Fixed.{view_batch_fields}
 use Rattle.layout.specs.Time.{record_time, view_time}
 use Rattle.layout.specs.Promises as Layout
 use Rattle.opening.specs.declared.OpenError.{OpenError}
@@ -21,8 +24,25 @@ use Rattle.batches.specs.declared.ControlBatchOrRecords.{ControlBatchOrRecords}
 use Rattle.batches.specs.declared.BatchFound.{BatchFound}
 use Rattle.batches.specs.declared.ReadError.{ReadError}
 use Rattle.batches.specs.Writer.{view_wanted, batch_given, own_tables, wanted_of}
-use Rattle.batches.specs.Answers.{view_fields, view_count, view_check, view_read, answer_with_room, rooms_of, answer_of, tables_of}
-use Rattle.batches.specs.Request.{Sensible}
+use Rattle.batches.specs.Answers.{view_fields, view_count, view_check, view_read, error_of_opening, error_of_records, answer_with_room, rooms_of, answer_of, tables_of}
+use Rattle.batches.specs.Request.{InWidth, Sensible}
+
+-- ReadError::from an error of the opening
+abbrev pub FromOpenErrorPromise : OpenError → ReadError → Type 0
+FromOpenErrorPromise e r = r ≡ error_of_opening e
+
+-- ReadError::from an error of the records
+abbrev pub FromRecordsErrorPromise : RecordsError → ReadError → Type 0
+FromRecordsErrorPromise e r = r ≡ error_of_records e
+
+-- BatchFields::from a batch: its fields as they are laid out, and that they are of their width
+pub record FromRecordBatchPromise (b : RecordBatch) (x : BatchFields) : Type 0 where
+  pub same : view_batch_fields x ≡ view_fields b
+  pub widths : InWidth (view_fields b)
+
+-- RecordBatch::from the fields as they are laid out
+abbrev pub FromBatchFieldsPromise : BatchFields → RecordBatch → Type 0
+FromBatchFieldsPromise x b = view_fields b ≡ view_batch_fields x
 
 -- RecordBatch::total_size, of any batchLength
 abbrev pub TotalSizePromise : ℤ → ℤ → Type 0

@@ -1,32 +1,19 @@
 -- Words of private contracts: none of them stands in a promise. What the steps of reading, of the canonical check and of
 -- writing give.
-use Rattle.std.specs.Prelude.{ℕ, ◌≡◌, Bool, false, List, eqb, ltb, get_or, Result, Ok, Err}
+use Rattle.std.specs.Prelude.{ℕ, Bool, false, List, eqb, ltb, get_or, Result, Ok, Err}
 use Rattle.numbers.specs.Pick.{pick}
 use Rattle.reading.specs.declared.RecordsFound.{RecordsFound}
 use Rattle.reading.specs.declared.RecordsError.{RecordsError}
-use Rattle.layout.specs.declared.BatchFields.{BatchFields}
-use Rattle.layout.specs.Fixed.{view_batch_fields}
 use Rattle.opening.specs.declared.BatchFault.{BatchFault}
 use Rattle.opening.specs.declared.OpenError.{OpenError}
 use Rattle.batches.specs.declared.RecordBatch.{RecordBatch}
 use Rattle.batches.specs.declared.ControlBatchOrRecords.{ControlBatchOrRecords}
 use Rattle.batches.specs.declared.BatchFound.{BatchFound}
-use Rattle.batches.specs.declared.ReadError.{ReadError}
-use Rattle.batches.specs.Answers.{view_fields}
-use Rattle.batches.specs.Request.{InWidth}
 
--- ---- what is an error of a part is one of the whole
-
-abbrev pub error_of_opening : OpenError → ReadError
-error_of_opening (OpenError.MoreBytes n) = ReadError.MoreBytes n
-error_of_opening (OpenError.Refused f) = ReadError.Refused f
+-- ---- what is found of records is found of the batch
 
 abbrev pub found_records : RecordBatch → ℕ → ℕ → ℕ → BatchFound
 found_records b total n m = record { batch = b; kind = ControlBatchOrRecords.Records n; headers = m; consumed = total }
-
-abbrev pub error_of_records : RecordsError → ReadError
-error_of_records (RecordsError.Refused f) = ReadError.Refused (BatchFault.Body f)
-error_of_records (RecordsError.NoRoom n m) = ReadError.NoRoom n m
 
 -- what is read into tables of no rows: a table that is short is no fault of what is checked
 abbrev pub check_of_records_read : RecordBatch → ℕ → Result RecordsFound RecordsError → Result BatchFound OpenError
@@ -39,10 +26,3 @@ check_of_records_read b total (Err (RecordsError.NoRoom n m)) = Ok (found_record
 -- the bytes of the attributes, and the highest of the count
 abbrev pub tight : List ℕ → Bool
 tight s = pick (eqb (get_or s 21 0) 0) (pick (ltb (get_or s 22 0) 64) (ltb (get_or s 57 0) 128) false) false
-
--- ---- the fields
-
--- as they are laid out, and that they are of their width
-pub record Laid (b : RecordBatch) (x : BatchFields) : Type 0 where
-  pub same : view_batch_fields x ≡ view_fields b
-  pub widths : InWidth (view_fields b)

@@ -17,9 +17,9 @@ ghost use Rattle.opening.specs.Judgement.{way_of, judge_at};
 ghost use Rattle.opening.specs.Opened.{judged_as};
 ghost use Rattle.markers.specs.Markers.{view_marker};
 ghost use Rattle.batches.specs.Answers.{view_fields, view_check, view_read, answer_with_room};
-ghost use Rattle.batches.specs.Reading.{tight, check_of_records_read, error_of_opening, error_of_records, Laid};
+ghost use Rattle.batches.specs.Reading.{tight, check_of_records_read};
 ghost use Rattle.batches.specs.Writer.{written_batch, most_length, rows_asked, batch_given_by};
-ghost use Rattle.batches.specs.Promises.{TotalSizePromise, CheckPromise, ReadBy, ReadPromise, RecordCountPromise, RecordTimePromise, MeasurePromise, WritePromise, CanonicalPromise};
+ghost use Rattle.batches.specs.Promises.{FromOpenErrorPromise, FromRecordsErrorPromise, FromRecordBatchPromise, FromBatchFieldsPromise, TotalSizePromise, CheckPromise, ReadBy, ReadPromise, RecordCountPromise, RecordTimePromise, MeasurePromise, WritePromise, CanonicalPromise};
 
 use asking::WriteFault;
 use body::read_body;
@@ -88,7 +88,7 @@ pub enum ReadError {
 }
 
 impl From<OpenError> for ReadError {
-    ghost from_gives = { λ e r. r ≡ error_of_opening e };
+    ghost from_gives = { FromOpenErrorPromise };
 
     fn from(e: OpenError) -> ReadError {
         match e {
@@ -99,7 +99,7 @@ impl From<OpenError> for ReadError {
 }
 
 impl From<RecordsError> for ReadError {
-    ghost from_gives = { λ e r. r ≡ error_of_records e };
+    ghost from_gives = { FromRecordsErrorPromise };
 
     fn from(e: RecordsError) -> ReadError {
         match e {
@@ -366,7 +366,7 @@ fn finish(fields: BatchFields, is_control: bool, count: Int32, end: usize, outpu
 
 // The fields, as they are laid out. They are of their width.
 impl From<RecordBatch> for BatchFields {
-    ghost from_gives = { Laid };
+    ghost from_gives = { FromRecordBatchPromise };
 
     fn from(batch: RecordBatch) -> BatchFields {
         BatchFields {
@@ -390,7 +390,7 @@ impl From<RecordBatch> for BatchFields {
 
 // The batch that has these fields.
 impl From<BatchFields> for RecordBatch {
-    ghost from_gives = { λ fields batch. view_fields batch ≡ view_batch_fields fields };
+    ghost from_gives = { FromBatchFieldsPromise };
 
     fn from(fields: BatchFields) -> RecordBatch {
         let times = fields.times;
