@@ -1,4 +1,4 @@
--- The promise admits a single answer: from what the answer says it can be made again, and the output is given.
+-- Each promise admits a single answer: from what the answer says it can be made again, and the output is given.
 -- Assumes nothing.
 use Prim.Native.Nat.{ℕ}
 use mathlib.Core.Path.{◌≡◌, refl, sym, ap, ◌∙◌, subst}
@@ -16,7 +16,10 @@ use Rattle.converting.specs.declared.Conversion.{Conversion}
 use Rattle.converting.specs.declared.ConvertError.{ConvertError}
 use Rattle.std.specs.Prelude.{Result, Ok, Err}
 use Rattle.converting.specs.Answers.{Answer, view_converted}
-use Rattle.converting.specs.Promises.{ConvertPromise}
+use Rattle.converting.specs.Promises.{FromBatchFaultPromise, ConvertPromise}
+
+pub single_from_batch_fault : (f : BatchFault) → Single (FromBatchFaultPromise f)
+single_from_batch_fault f = single_value _
 
 -- ---- a fault has neither 0 nor 24: what is made from these has another number
 

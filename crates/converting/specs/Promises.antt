@@ -1,13 +1,18 @@
--- What the public function promises of its result and of the output, for every input. Lent bytes are lent to be read:
+-- What each public function promises of its result and of the output, for every input. Lent bytes are lent to be read:
 -- no function here can change them.
 use Rattle.std.specs.Prelude.{◌≡◌, ℕ, List, length, Result}
 use Rattle.numbers.specs.Bytes.{Bytes}
+use Rattle.opening.specs.declared.BatchFault.{BatchFault}
 use Rattle.converting.specs.declared.Conversion.{Conversion}
 use Rattle.converting.specs.declared.ConvertError.{ConvertError}
 use Rattle.converting.specs.Conversion.{conversion_of}
 use Rattle.converting.specs.Answers.{view_converted, answer_of, output_of}
 
--- the result, with the output at exit
+-- ConvertError::from a fault of a batch
+abbrev pub FromBatchFaultPromise : BatchFault → ConvertError → Type 0
+FromBatchFaultPromise f e = e ≡ ConvertError.Refused f
+
+-- the result of convert, with the output at exit
 pub record ConvertOutcome : Type 0 where
   pub result : Result Conversion ConvertError
   pub output : List ℕ

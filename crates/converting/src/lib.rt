@@ -7,9 +7,8 @@ ghost use Rattle.layout.specs.Table.{fixed_part};
 ghost use Rattle.layout.specs.declared.ControlMode.{ControlMode};
 ghost use Rattle.opening.specs.Judgement.{refused, accepted, judge};
 ghost use Rattle.markers.specs.Markers.{view_marker};
-ghost use Rattle.converting.specs.declared.ConvertError.{ConvertError};
 ghost use Rattle.converting.specs.Conversion.{rekeyed, conversion_of};
-ghost use Rattle.converting.specs.Promises.{ConvertPromise};
+ghost use Rattle.converting.specs.Promises.{FromBatchFaultPromise, ConvertPromise};
 ghost use Rattle.converting.specs.Giving.{GivenBy, rekeyed_size, with_length, with_checksum};
 
 use batches::RecordBatch;
@@ -44,7 +43,7 @@ pub enum ConvertError {
 }
 
 impl From<BatchFault> for ConvertError {
-    ghost from_gives = { λ f e. e ≡ ConvertError.Refused f };
+    ghost from_gives = { FromBatchFaultPromise };
 
     fn from(f: BatchFault) -> ConvertError {
         ConvertError::Refused(f)
