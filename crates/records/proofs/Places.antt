@@ -1,5 +1,5 @@
 -- The places that spans are turned into. The premises have the form in which a proof finds them. Assumes nothing.
-use Rattle.std.proofs.Common.{◌≡◌, ℕ, ◌+◌, ◌^◌, ◌<◌, ◌∷◌, [], pos, arith, w64, to_z}
+use Rattle.std.proofs.Common.{◌≡◌, ℕ, ◌+◌, ◌^◌, ◌<◌, arith, w64, to_z}
 use Rattle.primitives.specs.declared.Span.{Span}
 use Rattle.primitives.specs.Reading.{signed_by}
 use Rattle.primitives.specs.Answers.{span_as_read}
