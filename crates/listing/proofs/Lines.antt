@@ -37,11 +37,7 @@ on_same l a e f = f ∙ ap (λ (x : Line). written x a) e
 pub onto : (l : Line) (a b : List ℕ) {l' l'' : Line} → l' ≡ written l a → l'' ≡ written l' b → l'' ≡ written l (a ++ b)
 onto l a b e f = on_same (written l a) b e f ∙ written_append l a b
 
--- a byte alone, a byte after a text, and a text after a byte
-pub byte_alone : (l : Line) (b : ℕ) {l' : Line} → l' ≡ pushed l b → l' ≡ written l (b ∷ [])
-unfolding written
-byte_alone l b e = e
-
+-- a byte after a text, and a text after a byte
 pub byte_onto : (l : Line) (a : List ℕ) (b : ℕ) {l' l'' : Line} → l' ≡ written l a → l'' ≡ pushed l' b → l'' ≡ written l (a ++ (b ∷ []))
 unfolding written
 byte_onto l a b e f = onto l a (b ∷ []) e f

@@ -162,22 +162,23 @@ impl Line {
         }
     }
 
-    // The digits of a number, without zeros in front.
-    fn digits(self, n: u64) -> Line
-        ensures { result ≡ written self (decimal n) }
-    {
-        let digit = b'0' + (n % 10) as u8;
-        if n < 10 {
-            return self.byte(digit);
-        }
-        self.digits(n / 10).byte(digit)
-    }
-
-    // A number and the byte after it.
+    // A number and the byte after it. Twenty digits hold every number of 64 bits; the last is put in first.
     fn number(self, n: u64, after: u8) -> Line
         ensures { result ≡ written self (decimal n ++ (after ∷ [])) }
     {
-        self.digits(n).byte(after)
+        let mut digits = [0; 20];
+        let mut rest = n;
+        let mut start = 0;
+        for at in (1..20).rev() {
+            if rest < 10 {
+                start = at;
+                break;
+            }
+            digits[at] = b'0' + (rest % 10) as u8;
+            rest /= 10;
+        }
+        digits[start] = b'0' + rest as u8;
+        self.text(&digits[start..]).byte(after)
     }
 
     // The same of a signed number, with a space after it.
