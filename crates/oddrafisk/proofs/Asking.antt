@@ -12,9 +12,8 @@ use lib.ListN.{length, get_or}
 use mir.Syntax.{w64}
 use mir.Val.{SFits, to_z, of_z}
 use mir.ValLaws.{to_z-of_z}
-use Rattle.std.specs.Prelude.{Result, Some, None}
+use Rattle.std.specs.Prelude.{Result, Ok, Err, Some, None}
 use Rattle.std.specs.Prelude as std
-use Rattle.std.specs.Option.{ok_or}
 use Rattle.numbers.specs.Pick.{pick}
 use Rattle.records.specs.Rows.{Tables}
 use Rattle.asking.specs.declared.WriteFault.{WriteFault}
@@ -77,18 +76,20 @@ module _ (e : List ℤ) (r : std.Option RecordBatch) (t : view_option view_field
 
 -- ---- what is given for them
 
-module _ (mode : ControlMode) (e : List ℤ) (codec : ℤ) (f : SFits w64 codec) (z : of_z w64 codec ≡ 0) (k : SFits w64 (get_or e 10 (pos 0))) where
+module _ (mode : ControlMode) (e : List ℤ) (codec : ℤ) (f : SFits w64 codec) (z : of_z w64 codec ≡ 0) where
   codec_is : is 0 codec ≡ true
   codec_is = is_so codec f 0 (omega arith) z
 
-  pub asks_by : (x : std.Option (RecordBatch × ControlBatchOrRecords)) → view_option view_asked x ≡ entries_asked e → (g : WriteFault)
-      → write_number_of g ≡ wrong_number mode (to_z w64 (of_z w64 (get_or e 10 (pos 0)))) → AsksBy mode e codec (ok_or x g)
-  asks_by (Some x) v g n =
+  pub asks_by : (x : RecordBatch × ControlBatchOrRecords) → some (view_asked x) ≡ entries_asked e → AsksBy mode e codec (Ok x)
+  asks_by x v =
       record {
         is = sym v;
         gives = λ t s. sym (kind_given_lem mode e t s (sym v)) ∙ rw codec_is refl;
       }
-  asks_by None v g n =
+
+  pub asks_for_none : none ≡ entries_asked e → SFits w64 (get_or e 10 (pos 0)) → (g : WriteFault)
+      → write_number_of g ≡ wrong_number mode (to_z w64 (of_z w64 (get_or e 10 (pos 0)))) → AsksBy mode e codec (Err g)
+  asks_for_none v k g n =
       record {
         refuses = λ t s.
             ap refused (n ∙ ap (wrong_number mode) (to_z-of_z w64 (get_or e 10 (pos 0)) k))

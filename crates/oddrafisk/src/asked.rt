@@ -66,7 +66,10 @@ pub(crate) fn batch_asked(
     if codec != 0 {
         return Err(WriteFault::Codec);
     }
-    entries_asked(entries).ok_or(entries_fault(mode, entries[KIND]))
+    match entries_asked(entries) {
+        Some(asked) => Ok(asked),
+        None => Err(entries_fault(mode, entries[KIND])),
+    }
 }
 
 // What the entries of a batch ask for, or nothing where there are some that no batch has.
