@@ -17,7 +17,6 @@ use Rattle.numbers.specs.Answers.{in_ten}
 use Rattle.numbers.specs.Pen.{Pen, pen, emit}
 use Rattle.numbers.specs.Promises.{PutPromise}
 use Rattle.numbers.proofs.Pens.{put_emits, emit_emit}
-use Rattle.numbers.proofs.Signs.{widen_back}
 use Rattle.primitives.specs.declared.Span.{Span as Declared}
 use Rattle.primitives.specs.Reading.{bytes_of, shown}
 use Rattle.records.specs.Inside.{NullableInside}
@@ -82,9 +81,9 @@ shown_inside s x bytes h e = rw e at h
 
 pub start_put : (size : ℕ) (t o : ℤ) → SFits w64 t → SFits w32 o → (p q r s u : Pen)
     → q ≡ emit (shortest (pos size)) p → r ≡ emit (0 ∷ []) q
-    → s ≡ emit (shortest (to_z w64 (of_z w64 t))) r → u ≡ emit (shortest (to_z w64 (of_z w64 (to_z w32 (of_z w32 o))))) s
+    → s ≡ emit (shortest (to_z w64 (of_z w64 t))) r → u ≡ emit (shortest (to_z w32 (of_z w32 o))) s
     → u ≡ emit (shortest (pos size) ++ ((0 ∷ []) ++ (shortest t ++ shortest o))) p
 start_put size t o fits fits' p q r s u e h f g =
     four (shortest (pos size)) (0 ∷ []) (shortest t) (shortest o) p q r s u e h
     (f ∙ ap (λ (z : ℤ). emit (shortest z) r) (to_z-of_z w64 t fits))
-    (g ∙ ap (λ (z : ℤ). emit (shortest z) s) (widen_back w32 w64 o (omega arith) fits'))
+    (g ∙ ap (λ (z : ℤ). emit (shortest z) s) (to_z-of_z w32 o fits'))

@@ -20,7 +20,7 @@ ghost use Rattle.writing.specs.Put.{capped_record, capped_records};
 ghost use Rattle.writing.specs.Promises.{MeasureRecordsPromise, WriteRecordsPromise};
 
 use asking::{AskedHeader, AskedRecord, WriteFault, header_asked, record_asked};
-use numbers::{Varlong, put};
+use numbers::{Varint, Varlong, put};
 use primitives::Span;
 use records::Record;
 use sizes::{capped, number_size, span_size};
@@ -171,6 +171,21 @@ impl Rows<'_> {
     }
 }
 
+// A number by its kind, as the deltas are put.
+#[inline(always)]
+fn put_varint(n: Varint, output: &mut [u8], at: usize) -> usize
+    ensures { pen result output.new ≡ emit (shortest n.0) (pen at output.old) }
+{
+    put_number(n.0 as i64, output, at)
+}
+
+#[inline(always)]
+fn put_varlong(n: Varlong, output: &mut [u8], at: usize) -> usize
+    ensures { pen result output.new ≡ emit (shortest n.0) (pen at output.old) }
+{
+    put_number(n.0, output, at)
+}
+
 // A Varint or a Varlong: the shortest bytes of both are the same. A number of one byte, as most are, has a way of its
 // own.
 #[inline(always)]
@@ -282,8 +297,8 @@ fn put_start(
 {
     let at_attributes = put_length(size, output, at);
     let at_timestamp = put_byte(0, output, at_attributes);
-    let at_offset = put_number(timestamp_delta, output, at_timestamp);
-    put_number(offset_delta as i64, output, at_offset)
+    let at_offset = put_varlong(Varlong(timestamp_delta), output, at_timestamp);
+    put_varint(Varint(offset_delta), output, at_offset)
 }
 
 // Its key, its value and the number of its headers.
