@@ -1,4 +1,5 @@
 -- `asking::asked_count` meets its contract. Assumes nothing.
+use native.Mathlib.Omega.{arith}
 use Rattle.asking.proofs.Asks.{counts, cast_from_0, named_below, count_below, not_running_on, count_outside, count_past, count_asked}
 use Rattle.asking.proofs.asked_count.Goals as goal
 
@@ -32,4 +33,4 @@ returns-then-rows-count-2 c =
 pub returns : goal.returns
 returns c =
     count_asked _ _ _ _ _ (counts _ c.ranges.named c.if-named-lt0.false) _ (counts _ c.ranges.count c.if-count-lt0.false)
-    c.if-named-first.false c.if-rows-count.false c.if-rows-count-2.false
+    c.if-named-first.false (omega arith) (omega arith)

@@ -1,4 +1,5 @@
 -- `asking::span_asked` meets its contract. Assumes nothing.
+use native.Mathlib.Omega.{arith}
 use Rattle.asking.proofs.Asks.{counts, cast_from_0, start_below, null_asked, null_elsewhere, length_below, bytes_outside, bytes_past, bytes_within}
 use Rattle.asking.proofs.span_asked.Goals as goal
 
@@ -36,4 +37,4 @@ returns-then-size-len-2 c =
 pub returns : goal.returns
 returns c =
     bytes_within _ _ _ _ (counts _ c.ranges.start c.if-start-lt0.false) _ (counts _ c.ranges.len c.if-len-lt0.false)
-    c.if-size-len.false c.if-size-len-2.false
+    (omega arith) (omega arith)
