@@ -63,19 +63,19 @@ module _ (s : List ℕ) (at count first : ℕ) (t : Tables) where
         let full = room_is ∙ h in
         record { answer = rw (judged.1, full) (ap no_room (sym judged.2)); tables = rw (judged.1, full) }
 
-    -- once the check has passed, so does the walk
-    passes : map_step (walked_records t 0 first) (run_at s count at) ≡ ok (walked_records t 0 first judged.0) x.end
-    passes = ap (map_step (walked_records t 0 first)) (records_run s count at judged.1).0
+    -- once the check has passed, so does the walk, over whatever tables
+    passes : (u : Tables) → map_step (walked_records u 0 first) (run_at s count at) ≡ ok (walked_records u 0 first judged.0) x.end
+    passes u = ap (map_step (walked_records u 0 first)) (records_run s count at judged.1).0
 
-    pub never_refused : {n : ℕ} {X : Type 0} → no n ≡ map_step (walked_records t 0 first) (run_at s count at) → X
-    never_refused w = ok_not_no (sym passes ∙ sym w)
+    pub never_refused : (u : Tables) {n : ℕ} {X : Type 0} → no n ≡ map_step (walked_records u 0 first) (run_at s count at) → X
+    never_refused u w = ok_not_no (sym (passes u) ∙ sym w)
 
     pub read_got : b ≡ true → {m next : ℕ} {t' : Tables}
         → ok (record { headers = m; tables = t' }) next ≡ map_step (walked_records t 0 first) (run_at s count at)
         → ReadRecordsPromise s at count first t (record { result = Ok x; tables = t' })
     read_got h {m} {next} {t'} w =
         let room = room_is ∙ h in
-        let same : ok (record { headers = m; tables = t' }) next ≡ ok (walked_records t 0 first judged.0) x.end = w ∙ passes in
+        let same : ok (record { headers = m; tables = t' }) next ≡ ok (walked_records t 0 first judged.0) x.end = w ∙ passes t in
         let filled : t' ≡ (walked_records t 0 first judged.0).tables = cc in
         record {
           answer = rw (judged.1, room) (ap (λ (n : Counts). accepted n x.end) (sym judged.2));

@@ -6,7 +6,7 @@ pub returns-then-not-has_room : goal.returns-then-not-has_room
 returns-then-not-has_room c = read_no_room _ _ _ _ _ _ c.in_ok-found.ensures _ c.has_room.ensures c.if-not-has_room.true
 
 pub returns-in_err-walk : goal.returns-in_err-walk
-returns-in_err-walk c = never_refused _ _ _ _ _ _ c.in_ok-found.ensures _ c.has_room.ensures c.in_err-walk.ensures
+returns-in_err-walk c = never_refused _ _ _ _ _ _ c.in_ok-found.ensures _ c.has_room.ensures _ c.in_err-walk.ensures
 
 pub returns : goal.returns
 returns c = read_got _ _ _ _ _ _ c.in_ok-found.ensures _ c.has_room.ensures c.if-not-has_room.false c.in_ok-walk.ensures
