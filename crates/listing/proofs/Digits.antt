@@ -2,12 +2,12 @@
 -- still to come. Assumes nothing.
 use Prim.Native.Nat.{ℕ, zero, suc, ◌+◌, ◌-◌, ◌/◌, ◌%◌, ◌^◌, ◌≤◌, ◌<◌}
 use mathlib.Core.Path.{◌≡◌, refl, sym, ap, ◌∙◌}
-use mathlib.Core.List.{List, [], ◌∷◌, ◌++◌, append_assoc, append-nil}
+use mathlib.Core.List.{List, [], ◌∷◌, ◌++◌, append_assoc}
 use native.Mathlib.Omega.{arith}
 use native.Mathlib.Decide.{dec_lt}
 use native.Mathlib.Nat.{pow-succ'}
 use borrow.Author.Tests.{lt-ltb, le-ltb}
-use lib.ListN.{length, take, drop, set, replicate, length-append, length-drop, length-set}
+use lib.ListN.{length, take, drop, set, length-append, length-drop, length-set}
 use lib.Seq.{take_all}
 use Rattle.std.proofs.lemmas.Grind.{drop-set_at}
 use Rattle.listing.specs.Text.{digits, decimal}
@@ -29,9 +29,6 @@ pub record Spelled (n : ℕ) (bytes : List ℕ) (left rest : ℕ) : Type 0 where
   pub some : 1 ≤ left
   pub within : left ≤ 20
   pub small : rest < 10 ^ left
-
-pub begin : (n : ℕ) → n < 2 ^ 64 → Spelled n (replicate 20 0) 20 n
-begin n h = record { is = append-nil (decimal n); twenty = refl; some = omega arith; within = omega arith; small = omega arith }
 
 -- its end: the first digit alone is still to be put
 pub record Ends (n : ℕ) (bytes : List ℕ) (start rest : ℕ) : Type 0 where

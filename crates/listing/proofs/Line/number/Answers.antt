@@ -1,13 +1,10 @@
 -- `listing::Line::number` meets its contract, digit by digit as `Spelled` has it. Assumes nothing.
-use mathlib.Core.Path.{refl, ap, ◌∙◌}
+use mathlib.Core.Path.{ap, ◌∙◌}
 use Rattle.listing.specs.Writing.{written}
-use Rattle.listing.proofs.Digits.{Ends, begin, again, ends, ends_full, put_first}
+use Rattle.listing.proofs.Digits.{Ends, again, ends, ends_full, put_first}
 use Rattle.listing.proofs.Lines.{byte_onto}
 use Rattle.listing.proofs.Line.number.Goals.{else-loop-at-test, then-loop-at-test+then-rest-lt10}
 use Rattle.listing.proofs.Line.number.Goals as goal
-
-pub loop-at-init : goal.loop-at-init
-loop-at-init c = (refl, begin _ c.ranges.n.fits)
 
 pub loop-at-preserved : goal.loop-at-preserved
 loop-at-preserved c = (c.loop-at.invariant.0, again c.loop-at.invariant.1 c.loop-at-test.true c.if-rest-lt10.false)
