@@ -21,9 +21,10 @@ use Rattle.std.specs.List.{list_all, fold}
 use Rattle.std.specs.Simd.{first_chunks}
 use Rattle.numbers.specs.Pick.{pick}
 use Rattle.numbers.proofs.Picks.{second_fails}
+use Rattle.utf8.specs.Grammar.{Within, Tail}
 use Rattle.utf8.specs.Judgement.{Range, from, tail, holds, goes_on, is_utf8}
 use Rattle.utf8.specs.Steps.{following}
-use Rattle.utf8.proofs.Rows.{Row, row_1, row_after}
+use Rattle.utf8.proofs.Rows.{Row, row_1, row_2, row_after, inside}
 
 -- ---- an octet that begins a character
 
@@ -72,6 +73,13 @@ ascii_blocks (suc k) (suc n) s l h =
     (ascii_most 16 0 s (ltb-true _ _ (h 0 (omega arith)))).1
     ∙ ascii_blocks k n (drop 16 s) (omega arith) (λ i q. h (suc i) (omega arith))
     ∙ ap is_utf8 (drop-drop (16 * n) 16 s ∙ ap (λ (i : ℕ). drop i s) (add_comm 16 (16 * n) ∙ e))
+
+-- ---- a character of two octets
+
+pub two_octets : (s : List ℕ) → 2 ≤ length s → Within 0xC2 0xDF (get_or s 0 0) → Tail (get_or s 1 0) → is_utf8 s ≡ is_utf8 (drop 2 s)
+unfolding goes_on
+two_octets (a ∷ b ∷ s) l v w = begins (b ∷ s) (row_2 v) ∙ rw (inside tail b w.least w.most) refl
+two_octets s l v w = absurd (omega arith)
 
 -- ---- octets in ranges that are asked for
 

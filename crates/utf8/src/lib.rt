@@ -17,7 +17,7 @@ pub fn is_utf8(s: &[u8]) -> bool
     let mut rest = s;
     while let Some(&first) = rest.first() {
         if first < 0x80 {
-            rest = after_ascii(rest);
+            rest = after_two_octets(after_ascii(rest));
         } else {
             let Some(after) = after_longer(rest) else {
                 return false;
@@ -63,7 +63,7 @@ fn after_longer(s: &[u8]) -> Option<&[u8]>
     ensures { Judged [] s.now s.now result }
 {
     match s[0] {
-        0xC2..=0xDF => after_whole(s, 2, 0x80..=0xBF),
+        0xC2..=0xDF => Some(after_two_octets(after_whole(s, 2, 0x80..=0xBF)?)),
         0xE0 => after_whole(s, 3, 0xA0..=0xBF),
         0xE1..=0xEC => after_whole(s, 3, 0x80..=0xBF),
         0xED => after_whole(s, 3, 0x80..=0x9F),
@@ -73,6 +73,19 @@ fn after_longer(s: &[u8]) -> Option<&[u8]>
         0xF4 => after_whole(s, 4, 0x80..=0x8F),
         _ => None,
     }
+}
+
+// What follows the run of characters of two octets that `s` begins with, or `s` where it begins with none. Words in
+// Greek, Cyrillic, Hebrew or Arabic are such runs, so they need not go by the rows one by one.
+fn after_two_octets(s: &[u8]) -> &[u8]
+    ensures shorter { length result.now ≤ length s.now }
+    ensures same { is_utf8 s.now ≡ is_utf8 result.now }
+{
+    let mut rest = s;
+    while let [0xC2..=0xDF, 0x80..=0xBF, after @ ..] = rest {
+        rest = after;
+    }
+    rest
 }
 
 // What follows the n octets that `s` begins with, where the second is one of `seconds` and the others are tails.

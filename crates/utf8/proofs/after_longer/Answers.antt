@@ -2,6 +2,7 @@
 -- nothing.
 use Prim.Native.Nat.{◌≤◌}
 use mathlib.Core.Logic.{◌⊎◌, inl, inr}
+use mathlib.Core.Path.{◌∙◌}
 use lib.ListN.{get_or}
 use Rattle.std.proofs.lemmas.Grind.{common_steps}
 use native.Mathlib.Omega.{arith}
@@ -29,10 +30,17 @@ returns-in-244 c =
     let e = c.new-in-244.ensures in
     rw (begun c.args.s.now (omega arith) (row_4_F4 (omega arith))) (rw (e.start, e.end) at c.after_whole-in-244.ensures)
 
-pub returns-in-194-to-223 : goal.returns-in-194-to-223
-returns-in-194-to-223 c =
+pub returns-in_err-after_whole-in-194-to-223 : goal.returns-in_err-after_whole-in-194-to-223
+returns-in_err-after_whole-in-194-to-223 c =
+    let f = rw (c.new-in-194-to-223.ensures.start, c.new-in-194-to-223.ensures.end) at c.in_err-after_whole-in-194-to-223.ensures in
+    rw (c.from_residual.ensures, begun c.args.s.now (omega arith) (row_2 (omega arith))) f
+
+pub returns-in_ok-after_whole-in-194-to-223 : goal.returns-in_ok-after_whole-in-194-to-223
+returns-in_ok-after_whole-in-194-to-223 c =
     let e = c.new-in-194-to-223.ensures in
-    rw (begun c.args.s.now (omega arith) (row_2 (omega arith))) (rw (e.start, e.end) at c.after_whole-in-194-to-223.ensures)
+    let (l, f) = c.in_ok-after_whole-in-194-to-223.ensures in
+    let a = c.after_two_octets.ensures in
+    (omega (arith, l, a.shorter), begun c.args.s.now (omega arith) (row_2 (omega arith)) ∙ (rw (e.start, e.end) at f) ∙ a.same)
 
 pub returns-in-225-to-236 : goal.returns-in-225-to-236
 returns-in-225-to-236 c =
