@@ -1,7 +1,7 @@
 // Outputs: blotted before a call, and looked at afterwards, byte by byte.
 use std::array;
 
-// What an output has before it is written to. It is made once for all calls on outputs of a size: to work out a byte of
+// What an output has before it is written to. A case makes it once, for all rooms that it tries: to work out a byte of
 // it takes longer than to compare it.
 pub fn blotted<const N: usize>() -> [u8; N] {
     array::from_fn(|at| 255 - (at % 251) as u8)
