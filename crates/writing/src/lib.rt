@@ -171,7 +171,7 @@ impl Rows<'_> {
     }
 }
 
-// A number by its kind, as the deltas are put.
+// A number by its kind.
 #[inline(always)]
 fn put_varint(n: Varint, output: &mut [u8], at: usize) -> usize
     ensures { pen result output.new ≡ emit (shortest n.0) (pen at output.old) }
@@ -244,12 +244,13 @@ fn put_long(n: Varlong, output: &mut [u8], from: usize) -> usize
     at
 }
 
-// A length or a count. One that no Varint holds, which measuring has refused, needs no case of its own.
+// A length or a count. Both are Varints, and their shortest bytes are those of a Varlong: so one that no Varint holds,
+// which measuring has refused, needs no case of its own.
 fn put_length(n: usize, output: &mut [u8], at: usize) -> usize
     requires { n < 2 ^ 63 }
     ensures { pen result output.new ≡ emit (shortest (pos n)) (pen at output.old) }
 {
-    put_number(n as i64, output, at)
+    put_varlong(Varlong(n as i64), output, at)
 }
 
 // Bytes of the source after their length.
@@ -269,7 +270,7 @@ fn put_shown(source: &[u8], x: Option<Span>, output: &mut [u8], at: usize) -> us
     ensures { pen result output.new ≡ emit (written_nullable (shown source.now (span_of x))) (pen at output.old) }
 {
     match x {
-        None => put_number(-1, output, at),
+        None => put_varint(Varint(-1), output, at),
         Some(bytes) => put_span(source, bytes, output, at),
     }
 }
