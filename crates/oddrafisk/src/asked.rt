@@ -55,7 +55,8 @@ pub(crate) fn mode_of(n: u32) -> ControlMode
     ControlMode::Bare
 }
 
-// The fields and the kind that are asked for, or why they are refused: the codec first.
+// The fields and the kind that are asked for, or why they are refused: the codec first. Entries that are right cost no
+// test more: `ok_or` would work the fault out for them too.
 pub(crate) fn batch_asked(
     mode: ControlMode,
     entries: &[i64; 16],

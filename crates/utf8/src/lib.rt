@@ -56,8 +56,8 @@ fn ascii_block(block: &[u8; 16]) -> bool
     most < 0x80
 }
 
-// What follows the character that `s` begins with, by the rows of RFC 3629, section 4; or None where it begins with
-// none.
+// What follows the character that `s` begins with, by the rows of RFC 3629, section 4, and, where that has two octets,
+// what follows the run of such; or None where it begins with none.
 fn after_longer(s: &[u8]) -> Option<&[u8]>
     requires { (0 < length s.now) × (0x80 ≤ get_or s.now 0 0) }
     ensures { Judged [] s.now s.now result }
