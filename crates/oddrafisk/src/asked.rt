@@ -56,7 +56,8 @@ pub(crate) fn mode_of(n: u32) -> ControlMode
 }
 
 // The fields and the kind that are asked for, or why they are refused: the codec first. Entries that are right cost no
-// test more: `ok_or` would work the fault out for them too.
+// test more: `ok_or` would work the fault out for them too. Inline, since what is asked for would be copied once more.
+#[inline(always)]
 pub(crate) fn batch_asked(
     mode: ControlMode,
     entries: &[i64; 16],
