@@ -3,7 +3,7 @@
 use crate::times::batch;
 use crate::writer::{ACCEPTED, SHORT_OUTPUT, distance, is_answer};
 use batches::ControlBatchOrRecords;
-use cases::outputs::{blotted, is_left};
+use cases::outputs::{blotted, is_left_as};
 use cases::tables::fill;
 use cases::text::words_from;
 use layout::{ControlMode, RecordBatchTimestampType};
@@ -64,7 +64,7 @@ fn is_written(mode: ControlMode, rows: Rows, number: i64, size: usize) -> bool {
     let written = batch.write(mode, 0, kind, &records, &headers, &source, &mut output);
     is_answer(measured, number, size)
         && is_answer(written, written_number(number), 0)
-        && is_left(&output, &before, 0, b"")
+        && is_left_as(&output, &before, 0, b"")
 }
 
 fn put_records(table: &mut [i64], rows: Rows) {

@@ -2,7 +2,7 @@
 use asking::WriteFault;
 use batches::{ControlBatchOrRecords, RecordBatch};
 use canonical::canonical_records;
-use cases::outputs::{blotted, is_left};
+use cases::outputs::{blotted, is_left_as};
 use cases::tables::{MOST, fill};
 use cases::text::{hexadecimal, split_at_bar, word, words_from};
 use layout::{ControlMode, RecordBatchTimestampType};
@@ -257,10 +257,10 @@ impl Case<'_> {
         };
         let written = self.write(space);
         if self.number == ACCEPTED && !self.has_room(room) {
-            return is_answer(written, SHORT_OUTPUT, 0) && is_left(&output, &before, 0, b"");
+            return is_answer(written, SHORT_OUTPUT, 0) && is_left_as(&output, &before, 0, b"");
         }
         is_answer(written, self.number, self.bytes.len())
-            && is_left(&output, &before, self.start(), self.bytes)
+            && is_left_as(&output, &before, self.start(), self.bytes)
     }
 
     fn has_room(&self, room: usize) -> bool {
@@ -290,5 +290,5 @@ fn batch_comes_back(mode: ControlMode, bytes: &[u8]) -> bool {
     found.consumed == bytes.len()
         && RecordBatch::is_canonical(mode, bytes)
         && is_answer(w, ACCEPTED, bytes.len())
-        && is_left(&output, &before, 0, bytes)
+        && is_left_as(&output, &before, 0, bytes)
 }

@@ -1,5 +1,5 @@
 // The conversion: what is answered, and every byte of the output afterwards.
-use cases::outputs::{blotted, is_left};
+use cases::outputs::{blotted, is_left_as};
 use cases::text::{hexadecimal, unsigned, word, words};
 use converting::{Conversion, ConvertError, convert};
 
@@ -44,7 +44,7 @@ fn converts(s: &[u8], room: usize, expected: Answer, bytes: &[u8]) -> Option<boo
     let before: [u8; LONGEST] = blotted();
     let mut output = before;
     let converted = convert(s, output.get_mut(..room)?);
-    Some(is_answer(converted, expected) && is_left(&output, &before, 0, bytes))
+    Some(is_answer(converted, expected) && is_left_as(&output, &before, 0, bytes))
 }
 
 fn is_answer(c: Result<Conversion, ConvertError>, expected: Answer) -> bool {

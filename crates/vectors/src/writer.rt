@@ -1,5 +1,5 @@
 // Whether the library writes a number as the bytes that are expected, and puts bytes where they belong.
-use cases::outputs::{blotted, is_left};
+use cases::outputs::{blotted, is_left_as};
 use cases::text::{unsigned, word};
 use numbers::{Encoded, Int8, Int16, Int32, Int64, Uint32, Uint64, Varint, Varlong, put};
 
@@ -29,7 +29,7 @@ pub fn copies(bytes: &[u8], line: &[u8]) -> Option<bool> {
     let before: [u8; MOST_ROOM] = blotted();
     let mut output = before;
     let after = put(bytes, output.get_mut(..room)?, at);
-    Some(after == end && is_left(&output, &before, at, bytes.get(..count)?))
+    Some(after == end && is_left_as(&output, &before, at, bytes.get(..count)?))
 }
 
 // Whether the bytes in use are those expected, and the others 0.
