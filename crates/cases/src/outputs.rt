@@ -91,19 +91,24 @@ mod tests {
         told(!is_left(&output, 249, b"pint"), "one less is written")
     }
 
+    fn written<const N: usize>() -> [u8; N] {
+        array::from_fn(|at| (at % 241) as u8)
+    }
+
     // Bytes that begin in the first part that is blotted alike and end in the third.
     #[test]
     fn finds_bytes_of_more_than_a_part() -> Result<(), Fail> {
+        let bytes: [u8; 303] = written();
         let mut output: [u8; 600] = array::from_fn(|at| match at {
-            200..=502 => 7,
+            200..=502 => ((at - 200) % 241) as u8,
             _ => 255 - (at % 251) as u8,
         });
-        told(is_left(&output, 200, &[7; 303]), "303 are written")?;
-        told(!is_left(&output, 200, &[7; 302]), "one more is written")?;
-        told(!is_left(&output, 200, &[7; 304]), "one less is written")?;
-        told(!is_left(&output, 199, &[7; 303]), "not from there")?;
+        told(is_left(&output, 200, &bytes), "303 are written")?;
+        told(!is_left(&output, 200, &written::<302>()), "one more")?;
+        told(!is_left(&output, 200, &written::<304>()), "one less")?;
+        told(!is_left(&output, 199, &bytes), "not from there")?;
         output[400] = 8;
-        told(!is_left(&output, 200, &[7; 303]), "one is another")
+        told(!is_left(&output, 200, &bytes), "one is another")
     }
 
     #[test]
